@@ -1,0 +1,14 @@
+use mathlib.Core.Path.{refl}
+use Rattle.refusals.specs.Table.{numbers, numbersOf, table}
+use Rattle.refusals.proofs.all_numbers.Statement.{statement}
+use Rattle.refusals.proofs.all_numbers.Tie as tie
+use Rattle.refusals.proofs.all_numbers.Reads as reads
+use Rattle.refusals.proofs.all_numbers.Lts as lts
+
+-- src/lib.rt:83:1
+returns : tie.Need-returns
+unfolding numbers numbersOf table
+returns c = refl
+
+pub all-numbers-spec : {M : Type 1} → statement M
+all-numbers-spec = tie.close (tie.spec returns)

@@ -1,0 +1,54 @@
+-- Document 01, "When the desk says no": each number of the table, with its close code where what was read
+-- from the peer is refused. A row of the paper with no close code, or with a state in its place, has `Nothing`.
+use Prim.Native.Nat.{ℕ}
+use mathlib.Core.List.{List, [], _∷_}
+use Rattle.refusals.specs.declared.Close.{Close}
+use Rattle.refusals.specs.declared.Close.the-variants.{Nothing, With}
+
+pub data Row : Type 0 where
+  row : ℕ → Close → Row
+
+unfoldable pub table : List Row
+table =
+    row 11 Nothing ∷
+    row 12 Nothing ∷
+    row 13 Nothing ∷
+    row 21 Nothing ∷
+    row 22 Nothing ∷
+    row 23 Nothing ∷
+    row 24 Nothing ∷
+    row 25 Nothing ∷
+    row 26 Nothing ∷
+    row 31 (With 0x08) ∷
+    row 32 (With 0x08) ∷
+    row 33 (With 0x08) ∷
+    row 34 (With 0x08) ∷
+    row 35 (With 0x08) ∷
+    row 36 (With 0x08) ∷
+    row 37 Nothing ∷
+    row 40 Nothing ∷
+    row 41 Nothing ∷
+    row 42 Nothing ∷
+    row 43 Nothing ∷
+    row 44 Nothing ∷
+    row 45 Nothing ∷
+    row 51 (With 0x11) ∷
+    row 61 Nothing ∷
+    row 62 Nothing ∷
+    row 63 Nothing ∷
+    row 64 Nothing ∷
+    row 65 Nothing ∷
+    row 71 (With 0x11) ∷
+    row 72 (With 0x11) ∷
+    row 73 (With 0x11) ∷
+    row 74 (With 0x11) ∷
+    row 75 (With 0x11) ∷
+    []
+
+unfoldable pub numbersOf : List Row → List ℕ
+numbersOf [] = []
+numbersOf (row n c ∷ rs) = n ∷ numbersOf rs
+
+-- The table's numbers, in its order
+unfoldable pub numbers : List ℕ
+numbers = numbersOf table
