@@ -1,0 +1,6 @@
+pub mod Choice
+pub mod Limits
+pub mod Pairs
+pub mod Table
+pub mod Version
+pub mod Wire

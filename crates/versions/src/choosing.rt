@@ -1,0 +1,55 @@
+// The choice of a version: the first entry of the table that occurs in the list.
+ghost use mathlib.Core.Path.{_≡_};
+ghost use Rattle.versions.specs.Choice.{choose, choiceReply};
+ghost use Rattle.versions.specs.Wire.{entries};
+
+use crate::Choice;
+use crate::MAX_LIST;
+use crate::table::contains;
+use crate::table::is_table;
+use crate::wire::contains_in_bytes;
+use refusals::Refusal;
+
+// The choice from a list. Refusals, in order: 40 (over MAX_LIST entries), 41 (the table breaks its rule),
+// 42 (nothing of the table is in the list).
+pub fn choose_from(table: &[u32], list: &[u32]) -> Choice
+    ensures { λ r. ⌜ choiceReply r ≡ choose (now (table .entry)) (now (list .entry)) ⌝ }
+{
+    if MAX_LIST < list.len() {
+        return Choice::Refused(Refusal::LIST_TOO_LONG);
+    }
+    if !is_table(table) {
+        return Choice::Refused(Refusal::BAD_TABLE);
+    }
+    let mut i = 0;
+    while i < table.len() {
+        let version = table[i];
+        if contains(list, version) {
+            return Choice::Version(version);
+        }
+        i += 1;
+    }
+    Choice::Refused(Refusal::NOTHING_IN_COMMON)
+}
+
+// The choice from a list as it lies on the wire. Entries are whole fours; 1 to 3 bytes left over are no
+// entry. Refusals as `choose_from`'s.
+pub fn choose_from_bytes(table: &[u32], bytes: &[u8]) -> Choice
+    ensures { λ r. ⌜ choiceReply r ≡ choose (now (table .entry)) (entries (now (bytes .entry))) ⌝ }
+{
+    if MAX_LIST < bytes.len() / 4 {
+        return Choice::Refused(Refusal::LIST_TOO_LONG);
+    }
+    if !is_table(table) {
+        return Choice::Refused(Refusal::BAD_TABLE);
+    }
+    let mut i = 0;
+    while i < table.len() {
+        let version = table[i];
+        if contains_in_bytes(bytes, version) {
+            return Choice::Version(version);
+        }
+        i += 1;
+    }
+    Choice::Refused(Refusal::NOTHING_IN_COMMON)
+}

@@ -1,0 +1,25 @@
+// Versions: the reserved numbers, tables of versions and of compatible pairs, the choice of a version
+// from a list, and lists of versions on the wire. Every function answers for every input.
+pub mod choosing; // the choice from a list
+pub mod pairs; // compatible pairs
+pub mod table; // reserved numbers, tables and lists
+pub mod wire; // big-endian versions and lists of them
+
+// The most entries that a table of versions has.
+pub const MAX_TABLE: usize = 16;
+// The most pairs that a table of compatible pairs has.
+pub const MAX_PAIRS: usize = 64;
+// The most entries that a list to choose from has.
+pub const MAX_LIST: usize = 16382;
+
+// What a choice from a list answers: a refusal (40, 41, 42), or the chosen version.
+pub enum Choice {
+    Refused(refusals::Refusal),
+    Version(u32),
+}
+
+// The version at a place of a list on the wire, or nothing where the list ends before it.
+pub enum Entry {
+    Version(u32),
+    Nothing,
+}

@@ -1,0 +1,71 @@
+// Reserved numbers, tables and lists of versions.
+ghost use mathlib.Core.Path.{_≡_};
+ghost use Rattle.versions.specs.Table.{elem, tableKeepsRule};
+ghost use Rattle.versions.specs.Version.{reserved, usable};
+
+use crate::MAX_TABLE;
+
+// Whether the low half of each byte of the version is 10 (0x?a?a?a?a, RFC 9000 section 15).
+pub fn is_reserved(version: u32) -> bool
+    ensures { λ r. ⌜ r ≡ reserved version ⌝ }
+{
+    if version / 0x1 % 16 != 10 {
+        return false;
+    }
+    if version / 0x100 % 16 != 10 {
+        return false;
+    }
+    if version / 0x10000 % 16 != 10 {
+        return false;
+    }
+    version / 0x1000000 % 16 == 10
+}
+
+// Whether a table or a pair may hold the version: it is neither 0 nor reserved.
+pub fn is_usable(version: u32) -> bool
+    ensures { λ r. ⌜ r ≡ usable version ⌝ }
+{
+    if version == 0 {
+        return false;
+    }
+    !is_reserved(version)
+}
+
+// Whether the version occurs in the list.
+pub fn contains(list: &[u32], version: u32) -> bool
+    ensures { λ r. ⌜ r ≡ elem version (now (list .entry)) ⌝ }
+{
+    let mut i = 0;
+    while i < list.len() {
+        if list[i] == version {
+            return true;
+        }
+        i += 1;
+    }
+    false
+}
+
+// Whether a table of versions keeps its rule: 1 to MAX_TABLE entries, none 0, none reserved, none twice.
+pub fn is_table(table: &[u32]) -> bool
+    ensures { λ r. ⌜ r ≡ tableKeepsRule (now (table .entry)) ⌝ }
+{
+    let count = table.len();
+    if count < 1 {
+        return false;
+    }
+    if MAX_TABLE < count {
+        return false;
+    }
+    let mut i = 0;
+    while i < count {
+        let version = table[i];
+        i += 1;
+        if !is_usable(version) {
+            return false;
+        }
+        if contains(&table[i..], version) {
+            return false;
+        }
+    }
+    true
+}
