@@ -1,12 +1,13 @@
 -- The table's close codes by ranges of numbers: one test that antt computes over all 256 values of a byte.
 use Prim.Native.Nat.{ℕ, zero, suc, _<_}
-use mathlib.Core.Bool.{Bool, true, false, cond, _&&_, false≢true}
+use mathlib.Core.Bool.{Bool, true, false, cond, _&&_}
 use mathlib.Core.Path.{_≡_, refl, ap}
 use lib.Dec.{leb, ltb, eqb}
 use borrow.Author.Tests.{eqb-true}
 use native.Mathlib.Nat.{not-suc-le-zero}
 use native.Mathlib.Decide.{decLt}
 use native.Mathlib.Omega.{arith}
+use Rattle.refusals.proofs.Rules.{both-true}
 use Rattle.refusals.specs.Table.{table}
 use Rattle.refusals.specs.Close.{codeIn}
 use Rattle.refusals.specs.declared.Close.{Close}
@@ -30,14 +31,10 @@ everyBelow : (ℕ → Bool) → ℕ → Bool
 everyBelow p zero = true
 everyBelow p (suc k) = p k && everyBelow p k
 
-both : (a b : Bool) → (a && b) ≡ true → (a ≡ true) × (b ≡ true)
-both true b e = (refl, e)
-both false b e = absurd (false≢true e)
-
 at-each : (p : ℕ → Bool) (k : ℕ) → everyBelow p k ≡ true → (n : ℕ) → n < k → p n ≡ true
 unfolding everyBelow
 at-each p zero e n h = absurd (not-suc-le-zero h)
-at-each p (suc k) e n h = go (both (p k) (everyBelow p k) e) (decLt n k) (at-each p k)
+at-each p (suc k) e n h = go (both-true (p k) (everyBelow p k) e) (decLt n k) (at-each p k)
   where
     go : (p k ≡ true) × (everyBelow p k ≡ true) → Dec (n < k) → (everyBelow p k ≡ true → (m : ℕ) → m < k → p m ≡ true) → p n ≡ true
     go b (yes l) ih = ih (b .1) n l

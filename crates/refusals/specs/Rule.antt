@@ -7,15 +7,18 @@ use Rattle.refusals.specs.Reply.{Reply, refuse}
 use Rattle.refusals.specs.declared.Call.{Call}
 
 infix 15 _when_
-
 pub data Rule : Type 0 where
   _when_ : ℕ → Bool → Rule
 
+-- What the lowest rule that applies makes of its number, or, where none applies, the other value
+abbrev pub lowest : {B : Type 0} → (ℕ → B) → List Rule → B → B
+lowest refusal [] other = other
+lowest refusal ((n when true) ∷ rules) other = refusal n
+lowest refusal ((n when false) ∷ rules) other = lowest refusal rules other
+
 -- The refusal that the rules give, or, where none applies, the answer
 abbrev pub judged : {A : Type 0} → Call → List Rule → Reply A → Reply A
-judged call [] answer = answer
-judged call ((n when true) ∷ rules) answer = refuse call n
-judged call ((n when false) ∷ rules) answer = judged call rules answer
+judged call rules answer = lowest (refuse call) rules answer
 
 -- None of the rules applies
 abbrev pub clear : List Rule → Bool

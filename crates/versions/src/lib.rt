@@ -23,3 +23,9 @@ pub enum Entry {
     Version(u32),
     Nothing,
 }
+
+// Where a part of a byte string lies: from `start` up to, and not with, `end`.
+pub struct Span {
+    pub start: usize,
+    pub end: usize,
+}

@@ -1,0 +1,4 @@
+pub mod Demand3
+pub mod OwnLists
+pub mod Phases
+pub mod Worked

@@ -1,0 +1,66 @@
+-- Document 01, "By the box": the server's choice after a first flight (RFC 9368 sections 2.3 and 4).
+use Prim.Native.Nat.{ℕ}
+use mathlib.Core.Bool.{Bool, cond, not, _&&_, _||_}
+use mathlib.Core.List.{List, [], _∷_, _++_}
+use lib.Dec.{eqb}
+use Rattle.refusals.specs.Reply.{Reply, Reply.answered, refuse}
+use Rattle.refusals.specs.Rule.{Rule, Rule._when_, judged}
+use Rattle.refusals.specs.declared.Call.the-variants.{Reading}
+use Rattle.versions.specs.Pairs.{paired, pairsKeepRule}
+use Rattle.versions.specs.Table.{elem, tableKeepsRule}
+use Rattle.information.specs.Information.{chosenOf, availableOf, formRules, senderRules}
+use Rattle.information.specs.declared.Presence.{Presence}
+use Rattle.information.specs.declared.Presence.the-variants.{Missing, Given}
+use Rattle.information.specs.declared.Sender.the-variants.{Client}
+use Rattle.server.specs.declared.Decision.{Decision}
+use Rattle.server.specs.declared.Decision.the-variants.{Refused, Negotiate, Use}
+
+-- The answers that are no refusal
+pub data Act : Type 0 where
+  negotiate : Act
+  use-version : ℕ → Act
+
+-- The cases of `Decision`
+abbrev pub decisionReply : Decision → Reply Act
+decisionReply (Refused r) = refuse Reading (r .0)
+decisionReply Negotiate = answered negotiate
+decisionReply (Use v) = answered (use-version v)
+
+-- The tables and pairs that the server has: "a table of versions whose first flights it can read, a table of those
+-- it accepts, and pairs". "41 and 43 come before all else"
+abbrev pub serverRules : List ℕ → List ℕ → List (List ℕ) → List Rule
+serverRules readable accepted pairs =
+    (41 when not (tableKeepsRule readable) || not (tableKeepsRule accepted)) ∷
+    (43 when not (pairsKeepRule pairs)) ∷
+    []
+
+-- "is in the client's Available list and either is Chosen or is paired from Chosen"
+unfoldable pub mayUse : List (List ℕ) → ℕ → List ℕ → ℕ → Bool
+mayUse pairs chosen available v = elem v available && (eqb v chosen || paired pairs chosen v)
+
+-- "the first accepted version that ..; none: negotiate"
+unfoldable pub firstAccepted : List ℕ → List (List ℕ) → ℕ → List ℕ → Act
+firstAccepted [] pairs chosen available = negotiate
+firstAccepted (v ∷ accepted) pairs chosen available =
+    cond (mayUse pairs chosen available v) (use-version v) (firstAccepted accepted pairs chosen available)
+
+-- "Malformed: 31 to 36. Chosen not the version of the first flight: 51."
+abbrev pub flightRules : List ℕ → ℕ → List Rule
+flightRules information version =
+    formRules information ++
+    (senderRules Client (chosenOf information) (availableOf information) ++
+    ((51 when not (eqb (chosenOf information) version)) ∷ []))
+
+-- "If Version Information is missing: that version if accepted, else negotiate"
+abbrev pub withInformation : List ℕ → List (List ℕ) → ℕ → Presence → List ℕ → Reply Act
+withInformation accepted pairs version Missing information =
+    answered (cond (elem version accepted) (use-version version) negotiate)
+withInformation accepted pairs version Given information =
+    judged Reading (flightRules information version)
+    (answered (firstAccepted accepted pairs (chosenOf information) (availableOf information)))
+
+-- "If the version of the first flight is not readable: answer negotiate"
+unfoldable pub decide : List ℕ → List ℕ → List (List ℕ) → ℕ → Presence → List ℕ → Reply Act
+decide readable accepted pairs version presence information =
+    judged Reading (serverRules readable accepted pairs)
+    (cond (elem version readable) (withInformation accepted pairs version presence information) (answered negotiate))
