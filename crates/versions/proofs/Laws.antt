@@ -1,11 +1,13 @@
 -- The laws of choice. Demand 3: "the choice from two lists joined is the choice from the two choices; order,
 -- repeats and numbers that the table does not hold never change the answer; an empty list adds nothing, on
 -- either side". Document 01: "each list, joined or not, keeps within 40, and a 42 counts as an empty choice".
-use Prim.Native.Nat.{ℕ, zero, suc, _+_, _≤_}
-use native.Mathlib.Omega.{arith}
+-- The table may be any list: where it breaks its rule every choice is a 41, and the laws hold too.
+use Prim.Native.Nat.{ℕ, suc, _≤_}
 use native.Mathlib.Nat.{ℕ-set}
-use mathlib.Core.Bool.{Bool, true, false, cond, _||_, or-true, or-assoc, or-comm, true≢false, false≢true, Bool-set}
-use mathlib.Core.List.{List, [], _∷_, _++_, append-nil, Perm, List·Permᴰ, List·Permᴰ·nil, List·Permᴰ·cons, List·Permᴰ·swap, List·Permᴰ·trans, Option·toList}
+use native.Mathlib.Omega.{arith}
+use mathlib.Core.Bool.{Bool, true, false, cond, _||_, or-true, or-assoc, true≢false, false≢true, Bool-set}
+use mathlib.Core.List.{List, [], _∷_, _++_, append-nil, Option·toList}
+use mathlib.Core.List.{Perm, List·Permᴰ, List·Permᴰ·nil, List·Permᴰ·cons, List·Permᴰ·swap, List·Permᴰ·trans}
 use mathlib.Core.Logic.{∥∥₁-elim}
 use mathlib.Core.Option.{Option, Option.none, Option.some, Option·some-injective, Option·none-ne-some}
 use mathlib.Core.Path.{_≡_, refl, sym, ap, _∙_}
@@ -21,26 +23,20 @@ use Rattle.versions.specs.Table.{elem, tableKeepsRule}
 
 -- What a list holds
 
-pub elem-append : (v : ℕ) (a b : List ℕ) → elem v (a ++ b) ≡ (elem v a || elem v b)
-unfolding elem
-elem-append v [] b = refl
-elem-append v (x ∷ a) b = rw (elem-append v a b, or-assoc (eqb x v) (elem v a) (elem v b))
-
--- each of two tests first
 or-swap : (p q r : Bool) → (p || (q || r)) ≡ (q || (p || r))
 or-swap true true r = refl
 or-swap true false r = refl
-or-swap false true r = refl
-or-swap false false r = refl
+or-swap false q r = refl
 
--- an implied test adds nothing
+-- a test that implies the other adds nothing
 or-implied : (p q : Bool) → (p ≡ true → q ≡ true) → (p || q) ≡ q
 or-implied true q h = sym (h refl)
 or-implied false q h = refl
 
-or-false-both : (p q : Bool) → (p || q) ≡ false → (p ≡ false) × (q ≡ false)
-or-false-both true q h = absurd (true≢false h)
-or-false-both false q h = (refl, h)
+pub elem-append : (v : ℕ) (a b : List ℕ) → elem v (a ++ b) ≡ (elem v a || elem v b)
+unfolding elem
+elem-append v [] b = refl
+elem-append v (x ∷ a) b = rw (elem-append v a b, or-assoc (eqb x v) (elem v a) (elem v b))
 
 -- A number put in at any place counts as one put in front
 pub elem-inserted : (w v : ℕ) (xs ys : List ℕ) → elem w (xs ++ v ∷ ys) ≡ elem w (v ∷ (xs ++ ys))
@@ -57,20 +53,33 @@ elem-later : (v x : ℕ) (l : List ℕ) → elem v l ≡ true → elem v (x ∷ 
 unfolding elem
 elem-later v x l h = rw (h, or-true (eqb x v))
 
-reordered-holds : (v : ℕ) {a b : List ℕ} → List·Permᴰ a b → elem v a ≡ elem v b
+elem-reordered : (v : ℕ) {a b : List ℕ} → List·Permᴰ a b → elem v a ≡ elem v b
 unfolding elem
-reordered-holds v List·Permᴰ·nil = refl
-reordered-holds v (List·Permᴰ·cons e d) = rw (e, reordered-holds v d)
-reordered-holds v (List·Permᴰ·swap {a = x} {b = y} {l = l} e f) = rw (← e, ← f) (or-swap (eqb x v) (eqb y v) (elem v l))
-reordered-holds v (List·Permᴰ·trans d e) = reordered-holds v d ∙ reordered-holds v e
+elem-reordered v List·Permᴰ·nil = refl
+elem-reordered v (List·Permᴰ·cons e d) = rw (e, elem-reordered v d)
+elem-reordered v (List·Permᴰ·swap {a = x} {b = y} {l = l} e f) =
+    rw (← e, ← f) (or-swap (eqb x v) (eqb y v) (elem v l))
+elem-reordered v (List·Permᴰ·trans d e) = elem-reordered v d ∙ elem-reordered v e
 
-reordered-length : {a b : List ℕ} → List·Permᴰ a b → length a ≡ length b
-reordered-length List·Permᴰ·nil = refl
-reordered-length (List·Permᴰ·cons e d) = ap suc (reordered-length d)
-reordered-length (List·Permᴰ·swap e f) = refl
-reordered-length (List·Permᴰ·trans d e) = reordered-length d ∙ reordered-length e
+length-reordered : {a b : List ℕ} → List·Permᴰ a b → length a ≡ length b
+length-reordered List·Permᴰ·nil = refl
+length-reordered (List·Permᴰ·cons e d) = ap suc (length-reordered d)
+length-reordered (List·Permᴰ·swap e f) = refl
+length-reordered (List·Permᴰ·trans d e) = length-reordered d ∙ length-reordered e
 
 -- What is preferred
+
+-- It is an entry of the table and of the list
+pub preferred-held : (t l : List ℕ) (v : ℕ) → preferred t l ≡ some v → (elem v t ≡ true) × (elem v l ≡ true)
+unfolding preferred
+preferred-held [] l v h = absurd (Option·none-ne-some v h)
+preferred-held (x ∷ t) l v h = go (elem x l) refl h (preferred-held t l v)
+  where
+    go : (b : Bool) → elem x l ≡ b → cond b (some x) (preferred t l) ≡ some v →
+        (preferred t l ≡ some v → (elem v t ≡ true) × (elem v l ≡ true)) →
+        (elem v (x ∷ t) ≡ true) × (elem v l ≡ true)
+    go true e h ih = let q : x ≡ v = Option·some-injective x v h in rw (← q) (elem-front x t, e)
+    go false e h ih = (elem-later v x t (ih h .0), ih h .1)
 
 -- It depends only on which entries of the table the list holds
 pub preferred-by-membership : (t a b : List ℕ) → SameHeld t a b → preferred t a ≡ preferred t b
@@ -80,23 +89,13 @@ preferred-by-membership (v ∷ t) a b same =
     rw
     (same v (elem-front v t), preferred-by-membership t a b (λ w h. same w (elem-later w v t h)))
 
--- It is an entry of the table and of the list
-pub preferred-held : (t l : List ℕ) (v : ℕ) → preferred t l ≡ some v → (elem v t ≡ true) × (elem v l ≡ true)
-unfolding preferred
-preferred-held [] l v h = absurd (Option·none-ne-some v h)
-preferred-held (x ∷ t) l v h = go (elem x l) refl h (preferred-held t l v)
-  where
-    go : (b : Bool) → elem x l ≡ b → cond b (some x) (preferred t l) ≡ some v → (preferred t l ≡ some v → (elem v t ≡ true) × (elem v l ≡ true)) → (elem v (x ∷ t) ≡ true) × (elem v l ≡ true)
-    go true e h ih = let q : x ≡ v = Option·some-injective x v h in rw (← q) (elem-front x t, e)
-    go false e h ih = (elem-later v x t (ih h .0), ih h .1)
-
--- What a list does not hold is not the choice from it
+-- A number that the list does not hold is not preferred
 preferred-absent : (t l : List ℕ) (v : ℕ) → elem v l ≡ false → elem v (Option·toList (preferred t l)) ≡ false
 unfolding elem Option·toList
-preferred-absent t l v h = go (preferred t l) refl
+preferred-absent t l v absent = go (preferred t l) refl
   where
     other : (w : ℕ) → preferred t l ≡ some w → (b : Bool) → eqb w v ≡ b → b ≡ false
-    other w e true q = let same : w ≡ v = eqb-true w v q in sym (preferred-held t l v (e ∙ ap some same) .1) ∙ h
+    other w e true q = sym (preferred-held t l v (e ∙ ap some (eqb-true w v q)) .1) ∙ absent
     other w e false q = refl
 
     go : (o : Option ℕ) → preferred t l ≡ o → elem v (Option·toList o) ≡ false
@@ -104,62 +103,90 @@ preferred-absent t l v h = go (preferred t l) refl
     go (some w) e = rw (other w e (eqb w v) refl)
 
 -- From two lists joined: what is preferred of the two preferred
-pub preferred-joined : (t a b : List ℕ) → preferred t (a ++ b) ≡ preferred t (Option·toList (preferred t a) ++ Option·toList (preferred t b))
+pub preferred-joined : (t a b : List ℕ) →
+    preferred t (a ++ b) ≡ preferred t (Option·toList (preferred t a) ++ Option·toList (preferred t b))
 unfolding preferred elem Option·toList
 preferred-joined [] a b = refl
-preferred-joined (v ∷ t) a b = rw (elem-append v a b) (go (elem v a) (elem v b) refl refl (preferred-joined t a b))
+preferred-joined (v ∷ t) a b =
+    rw (elem-append v a b) (go (elem v a) (elem v b) refl refl (preferred-joined t a b))
   where
-    go : (p q : Bool) → elem v a ≡ p → elem v b ≡ q → preferred t (a ++ b) ≡ preferred t (Option·toList (preferred t a) ++ Option·toList (preferred t b)) → cond (p || q) (some v) (preferred t (a ++ b)) ≡ preferred (v ∷ t) (Option·toList (cond p (some v) (preferred t a)) ++ Option·toList (cond q (some v) (preferred t b)))
+    of-a : List ℕ
+    of-a = Option·toList (preferred t a)
+
+    of-b : List ℕ
+    of-b = Option·toList (preferred t b)
+
+    go : (p q : Bool) → elem v a ≡ p → elem v b ≡ q → preferred t (a ++ b) ≡ preferred t (of-a ++ of-b) →
+        cond (p || q) (some v) (preferred t (a ++ b)) ≡
+        preferred (v ∷ t)
+        (Option·toList (cond p (some v) (preferred t a)) ++ Option·toList (cond q (some v) (preferred t b)))
     go true true ea eb ih = rw (eq-eqb v v refl)
     go true false ea eb ih = rw (eq-eqb v v refl)
-    go false true ea eb ih = rw (elem-inserted v v (Option·toList (preferred t a)) [], eq-eqb v v refl)
-    go false false ea eb ih = rw (elem-append v (Option·toList (preferred t a)) (Option·toList (preferred t b)), preferred-absent t a v ea, preferred-absent t b v eb) ih
+    go false true ea eb ih = rw (elem-inserted v v of-a [], eq-eqb v v refl)
+    go false false ea eb ih =
+        rw (elem-append v of-a of-b, preferred-absent t a v ea, preferred-absent t b v eb) ih
 
 -- What is chosen
 
--- Within the limit and by a table that keeps its rule, the choice is what is preferred
-pub choose-preferred : (t l : List ℕ) → tableKeepsRule t ≡ true → length l ≤ maxList → choose t l ≡ orNothingInCommon (preferred t l)
+-- By a table that keeps its rule, from a list within the limit: what is preferred
+pub choose-preferred : (t l : List ℕ) → tableKeepsRule t ≡ true → length l ≤ maxList →
+    choose t l ≡ orNothingInCommon (preferred t l)
 unfolding choose
 choose-preferred t l keeps fits = rw (le-ltb maxList (length l) fits, keeps)
 
--- A table that breaks its rule gets 41 with every list
+-- By a table that breaks its rule: nothing, from every list
 choose-broken : (t l : List ℕ) → tableKeepsRule t ≡ false → length l ≤ maxList → choose t l ≡ refuse Reading 41
 unfolding choose
 choose-broken t l breaks fits = rw (le-ltb maxList (length l) fits, breaks)
 
 -- "order, repeats and numbers that the table does not hold never change the answer", as one law: nothing counts
 -- but which entries of the table the list holds
-pub choice-by-membership : (t a b : List ℕ) → length a ≤ maxList → length b ≤ maxList → SameHeld t a b → choose t a ≡ choose t b
+pub choice-by-membership : (t a b : List ℕ) → length a ≤ maxList → length b ≤ maxList → SameHeld t a b →
+    choose t a ≡ choose t b
 unfolding choose
 choice-by-membership t a b fits-a fits-b same =
-    rw (le-ltb maxList (length a) fits-a, le-ltb maxList (length b) fits-b, preferred-by-membership t a b same)
+    rw
+    (le-ltb maxList (length a) fits-a,
+    le-ltb maxList (length b) fits-b,
+    preferred-by-membership t a b same)
 
--- Order. No limit is asked: the two lists have one length
+-- Order. No limit is asked, since both lists have the same length
 pub choice-reordered : (t a b : List ℕ) → Perm a b → choose t a ≡ choose t b
 unfolding choose
 choice-reordered t a b p = rw (lengths, preferred-by-membership t a b (λ v _. holds v))
   where
     lengths : length a ≡ length b
-    lengths = ∥∥₁-elim p (ℕ-set (length a) (length b)) reordered-length
+    lengths = ∥∥₁-elim p (ℕ-set (length a) (length b)) length-reordered
 
     holds : (v : ℕ) → elem v a ≡ elem v b
-    holds v = ∥∥₁-elim p (Bool-set (elem v a) (elem v b)) (reordered-holds v)
+    holds v = ∥∥₁-elim p (Bool-set (elem v a) (elem v b)) (elem-reordered v)
 
--- A number put in at any place, where it is no entry of the table or the list holds it already
-choice-inserted : (t xs ys : List ℕ) (v : ℕ) → (elem v t ≡ true → elem v (xs ++ ys) ≡ true) → length (xs ++ v ∷ ys) ≤ maxList → choose t (xs ++ v ∷ ys) ≡ choose t (xs ++ ys)
+-- A number put in at any place, which the list holds already if the table holds it. The limit is asked of the
+-- longer list
+choice-inserted : (t xs ys : List ℕ) (v : ℕ) → (elem v t ≡ true → elem v (xs ++ ys) ≡ true) →
+    length (xs ++ v ∷ ys) ≤ maxList → choose t (xs ++ v ∷ ys) ≡ choose t (xs ++ ys)
 unfolding elem
-choice-inserted t xs ys v held fits = choice-by-membership t (xs ++ v ∷ ys) (xs ++ ys) fits (omega (arith, fits, length-append xs (v ∷ ys), length-append xs ys)) same
+choice-inserted t xs ys v held fits = choice-by-membership t (xs ++ v ∷ ys) (xs ++ ys) fits shorter same
   where
+    shorter : length (xs ++ ys) ≤ maxList
+    shorter = omega (arith, fits, length-append xs (v ∷ ys), length-append xs ys)
+
     same : SameHeld t (xs ++ v ∷ ys) (xs ++ ys)
-    same w in-t = elem-inserted w v xs ys ∙ or-implied (eqb v w) (elem w (xs ++ ys)) (λ e. let q : v ≡ w = eqb-true v w e in rw (← q) (held (rw q in-t)))
+    same w in-table =
+        elem-inserted w v xs ys ∙
+        or-implied (eqb v w) (elem w (xs ++ ys))
+        (λ e. let q : v ≡ w = eqb-true v w e in rw (← q) (held (rw q in-table)))
 
 -- Repeats
-pub choice-repeated : (t xs ys : List ℕ) (v : ℕ) → elem v (xs ++ ys) ≡ true → length (xs ++ v ∷ ys) ≤ maxList → choose t (xs ++ v ∷ ys) ≡ choose t (xs ++ ys)
+pub choice-repeated : (t xs ys : List ℕ) (v : ℕ) → elem v (xs ++ ys) ≡ true →
+    length (xs ++ v ∷ ys) ≤ maxList → choose t (xs ++ v ∷ ys) ≡ choose t (xs ++ ys)
 choice-repeated t xs ys v held fits = choice-inserted t xs ys v (λ _. held) fits
 
 -- Numbers that the table does not hold
-pub choice-not-in-table : (t xs ys : List ℕ) (v : ℕ) → elem v t ≡ false → length (xs ++ v ∷ ys) ≤ maxList → choose t (xs ++ v ∷ ys) ≡ choose t (xs ++ ys)
-choice-not-in-table t xs ys v absent fits = choice-inserted t xs ys v (λ held. absurd (false≢true (sym absent ∙ held))) fits
+pub choice-not-in-table : (t xs ys : List ℕ) (v : ℕ) → elem v t ≡ false →
+    length (xs ++ v ∷ ys) ≤ maxList → choose t (xs ++ v ∷ ys) ≡ choose t (xs ++ ys)
+choice-not-in-table t xs ys v absent fits =
+    choice-inserted t xs ys v (λ held. absurd (false≢true (sym absent ∙ held))) fits
 
 -- "an empty list adds nothing, on either side"
 pub choice-empty-left : (t l : List ℕ) → choose t ([] ++ l) ≡ choose t l
@@ -168,7 +195,7 @@ choice-empty-left t l = refl
 pub choice-empty-right : (t l : List ℕ) → choose t (l ++ []) ≡ choose t l
 choice-empty-right t l = ap (choose t) (append-nil l)
 
--- two choices are at most two entries
+-- two choices are two entries at most
 choices-fit : (a b : Reply ℕ) → length (choiceList a ++ choiceList b) ≤ maxList
 choices-fit (refused n c) (refused m d) = omega arith
 choices-fit (refused n c) (answered w) = omega arith
@@ -181,24 +208,26 @@ choiceList-preferred none = refl
 choiceList-preferred (some v) = refl
 
 -- "the choice from two lists joined is the choice from the two choices"
-pub choice-joined : (t a b : List ℕ) → length (a ++ b) ≤ maxList → choose t (a ++ b) ≡ choose t (choiceList (choose t a) ++ choiceList (choose t b))
+pub choice-joined : (t a b : List ℕ) → length (a ++ b) ≤ maxList →
+    choose t (a ++ b) ≡ choose t (choiceList (choose t a) ++ choiceList (choose t b))
 choice-joined t a b fits = go (tableKeepsRule t) refl
   where
     chosen : List ℕ
     chosen = choiceList (choose t a) ++ choiceList (choose t b)
 
-    chosen-fit : length chosen ≤ maxList
-    chosen-fit = choices-fit (choose t a) (choose t b)
+    chosen-fits : length chosen ≤ maxList
+    chosen-fits = choices-fit (choose t a) (choose t b)
 
-    fits-a : length a ≤ maxList
-    fits-a = omega (arith, fits, length-append a b)
-
-    fits-b : length b ≤ maxList
-    fits-b = omega (arith, fits, length-append a b)
-
-    listed : (l : List ℕ) → tableKeepsRule t ≡ true → length l ≤ maxList → choiceList (choose t l) ≡ Option·toList (preferred t l)
-    listed l keeps f = rw (choose-preferred t l keeps f) (choiceList-preferred (preferred t l))
+    listed : (l : List ℕ) → tableKeepsRule t ≡ true → length l ≤ maxList →
+        choiceList (choose t l) ≡ Option·toList (preferred t l)
+    listed l keeps within = rw (choose-preferred t l keeps within) (choiceList-preferred (preferred t l))
 
     go : (k : Bool) → tableKeepsRule t ≡ k → choose t (a ++ b) ≡ choose t chosen
-    go true keeps = rw (choose-preferred t (a ++ b) keeps fits, choose-preferred t chosen keeps chosen-fit, listed a keeps fits-a, listed b keeps fits-b, preferred-joined t a b)
-    go false breaks = choose-broken t (a ++ b) breaks fits ∙ sym (choose-broken t chosen breaks chosen-fit)
+    go true keeps =
+        rw
+        (choose-preferred t (a ++ b) keeps fits,
+        choose-preferred t chosen keeps chosen-fits,
+        listed a keeps (omega (arith, fits, length-append a b)),
+        listed b keeps (omega (arith, fits, length-append a b)),
+        preferred-joined t a b)
+    go false breaks = choose-broken t (a ++ b) breaks fits ∙ sym (choose-broken t chosen breaks chosen-fits)

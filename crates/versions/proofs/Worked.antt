@@ -1,13 +1,12 @@
 -- Worked choices of document 01, "Calls from both sides of the line", and choices at the limit of a list. Each
 -- is computed from the definitions alone.
-use Prim.Native.Nat.{ℕ, suc, _-_}
+use Prim.Native.Nat.{ℕ}
 use mathlib.Core.List.{List, [], _∷_, _++_}
 use mathlib.Core.Path.{_≡_, refl}
 use lib.ListN.{replicate}
 use Rattle.refusals.specs.Reply.{Reply.answered, refuse}
 use Rattle.refusals.specs.declared.Call.the-variants.{Reading}
 use Rattle.versions.specs.Choice.{choose, preferred}
-use Rattle.versions.specs.Limits.{maxList}
 use Rattle.versions.specs.Table.{elem, entriesKeepRule, tableKeepsRule}
 use Rattle.versions.specs.Version.{reserved, usable}
 
@@ -29,12 +28,12 @@ choices = record { P1 = refl; P2 = refl; P3 = refl }
 
 -- Refusal 40: "list to choose from over 16,382 entries"
 pub record AtTheLimit : Type 0 where
-  -- the last entry that a list may have is chosen
-  pub last : choose table (replicate (maxList - 1) 13 ++ 10 ∷ []) ≡ answered 10
+  -- the last entry of a full list is chosen
+  pub last : choose table (replicate 16381 13 ++ 10 ∷ []) ≡ answered 10
   -- a full list with nothing in common
-  pub full : choose table (replicate maxList 13) ≡ refuse Reading 42
+  pub full : choose table (replicate 16382 13) ≡ refuse Reading 42
   -- one entry more is refused, whatever it holds
-  pub over : choose table (replicate (suc maxList) 14) ≡ refuse Reading 40
+  pub over : choose table (replicate 16383 14) ≡ refuse Reading 40
 
 pub at-the-limit : AtTheLimit
 unfolding choose preferred elem tableKeepsRule entriesKeepRule usable reserved
