@@ -145,10 +145,11 @@ pub choice-by-membership : (t a b : List ℕ) → length a ≤ maxList → lengt
     choose t a ≡ choose t b
 unfolding choose
 choice-by-membership t a b fits-a fits-b same =
-    rw
-    (le-ltb maxList (length a) fits-a,
-    le-ltb maxList (length b) fits-b,
-    preferred-by-membership t a b same)
+    rw (
+      le-ltb maxList (length a) fits-a,
+      le-ltb maxList (length b) fits-b,
+      preferred-by-membership t a b same,
+    )
 
 -- Order. No limit is asked, since both lists have the same length
 pub choice-reordered : (t a b : List ℕ) → Perm a b → choose t a ≡ choose t b
@@ -224,10 +225,11 @@ choice-joined t a b fits = go (tableKeepsRule t) refl
 
     go : (k : Bool) → tableKeepsRule t ≡ k → choose t (a ++ b) ≡ choose t chosen
     go true keeps =
-        rw
-        (choose-preferred t (a ++ b) keeps fits,
-        choose-preferred t chosen keeps chosen-fits,
-        listed a keeps (omega (arith, fits, length-append a b)),
-        listed b keeps (omega (arith, fits, length-append a b)),
-        preferred-joined t a b)
+        rw (
+          choose-preferred t (a ++ b) keeps fits,
+          choose-preferred t chosen keeps chosen-fits,
+          listed a keeps (omega (arith, fits, length-append a b)),
+          listed b keeps (omega (arith, fits, length-append a b)),
+          preferred-joined t a b,
+        )
     go false breaks = choose-broken t (a ++ b) breaks fits ∙ sym (choose-broken t chosen breaks chosen-fits)
