@@ -151,7 +151,7 @@ choice-by-membership t a b fits-a fits-b same =
       preferred-by-membership t a b same,
     )
 
--- Order. No limit is asked, since both lists have the same length
+-- Order: `Perm` is mathlib's permutation of lists. No limit is asked, since both lists have the same length
 pub choice-reordered : (t a b : List ℕ) → Perm a b → choose t a ≡ choose t b
 unfolding choose
 choice-reordered t a b p = rw (lengths, preferred-by-membership t a b (λ v _. holds v))

@@ -7,8 +7,8 @@ use mathlib.Core.Path.{_≡_}
 use Rattle.refusals.specs.Reply.{Reply, Reply.refused, Reply.answered}
 use Rattle.versions.specs.Table.{elem}
 
--- A choice as a list to choose from. "a 42 counts as an empty choice"; so does a 41, which holds of the table
--- alone and so of every list
+-- A choice as a list to choose from: "a 42 counts as an empty choice". So does a 41, which the table alone
+-- gives, whatever the list
 abbrev pub choiceList : Reply ℕ → List ℕ
 choiceList (refused n c) = []
 choiceList (answered v) = v ∷ []
