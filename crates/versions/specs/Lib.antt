@@ -1,4 +1,5 @@
 pub mod Choice
+pub mod Laws
 pub mod Limits
 pub mod Pairs
 pub mod Table
