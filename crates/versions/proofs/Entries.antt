@@ -1,0 +1,228 @@
+-- Lists of versions on the wire: the entries by place, lengths, and that bytes and entries tell each other.
+use Prim.Native.Nat.{ℕ, zero, suc, _+_, _*_, _-_, _/_, _%_, _^_, _≤_, _<_}
+use mathlib.Core.Bool.{Bool, true, false, _&&_, _||_, false≢true}
+use mathlib.Core.Path.{_≡_, refl, sym, ap, _∙_}
+use mathlib.Core.List.{List, [], _∷_, _++_, append-assoc, append-nil}
+use mathlib.Core.Option.{Option, Option.none, Option.some}
+use native.Mathlib.Nat.{add-zero, div-add-mod'}
+use native.Mathlib.Numerals.{add-one}
+use native.Mathlib.Omega.{arith}
+use lib.Dec.{ltb, eqb}
+use lib.ListN.{length, take, drop, getD, length-append, length-drop}
+use lib.Seq.{getD-drop, drop-drop, take-suc, take-at, drop-at, length-take-le}
+use borrow.Author.Tests.{ltb-true, lt-ltb}
+use Rattle.versions.specs.Table.{elem}
+use Rattle.versions.specs.Wire.{number, numberAt, versionBytes, entries, bytesOf, listBytes, entryAt}
+
+-- ---- the entries by place
+
+entries-front : (s : List ℕ) → versionBytes ≤ length s → entries s ≡ numberAt s 0 ∷ entries (drop versionBytes s)
+unfolding entries
+entries-front [] h = absurd (omega arith)
+entries-front (a ∷ []) h = absurd (omega arith)
+entries-front (a ∷ b ∷ []) h = absurd (omega arith)
+entries-front (a ∷ b ∷ c ∷ []) h = absurd (omega arith)
+entries-front (a ∷ b ∷ c ∷ d ∷ rest) h = refl
+
+entries-short : (s : List ℕ) → length s < versionBytes → entries s ≡ []
+unfolding entries
+entries-short [] h = refl
+entries-short (a ∷ []) h = refl
+entries-short (a ∷ b ∷ []) h = refl
+entries-short (a ∷ b ∷ c ∷ []) h = refl
+entries-short (a ∷ b ∷ c ∷ d ∷ rest) h = absurd (omega arith)
+
+-- From a place on: the number there is the next entry
+pub entries-step : (s : List ℕ) (k : ℕ) → k + versionBytes ≤ length s
+    → entries (drop k s) ≡ numberAt s k ∷ entries (drop (k + versionBytes) s)
+entries-step s k h =
+    let l : versionBytes ≤ length (drop k s) = simp length-drop (omega arith) in
+    entries-front (drop k s) l ∙ simp (getD-drop, drop-drop, add-zero)
+
+-- Fewer than four bytes from a place on are no entry
+pub entries-end : (s : List ℕ) (k : ℕ) → length s < k + versionBytes → entries (drop k s) ≡ []
+entries-end s k h = entries-short (drop k s) (simp length-drop (omega arith))
+
+pub drop-entries : (i : ℕ) (s : List ℕ) → drop i (entries s) ≡ entries (drop (i * versionBytes) s)
+unfolding entries
+drop-entries zero s = refl
+drop-entries (suc i) [] = let z : suc i * versionBytes ≡ suc (i * versionBytes + 3) = omega arith in rw z
+drop-entries (suc i) (a ∷ []) = let z : suc i * versionBytes ≡ suc (suc (i * versionBytes + 2)) = omega arith in rw z
+drop-entries (suc i) (a ∷ b ∷ []) = let z : suc i * versionBytes ≡ suc (suc (suc (i * versionBytes + 1))) = omega arith in rw z
+drop-entries (suc i) (a ∷ b ∷ c ∷ []) = let z : suc i * versionBytes ≡ suc (suc (suc (suc (i * versionBytes)))) = omega arith in rw z
+drop-entries (suc i) (a ∷ b ∷ c ∷ d ∷ rest) =
+    let z : suc i * versionBytes ≡ suc (suc (suc (suc (i * versionBytes)))) = omega arith in rw z (drop-entries i rest)
+
+entryAt-drop : (vs : List ℕ) (place : ℕ) → entryAt vs place ≡ entryAt (drop place vs) 0
+unfolding entryAt
+entryAt-drop [] zero = refl
+entryAt-drop [] (suc place) = refl
+entryAt-drop (v ∷ vs) zero = refl
+entryAt-drop (v ∷ vs) (suc place) = entryAt-drop vs place
+
+entryAt-entries : (s : List ℕ) (place : ℕ) → entryAt (entries s) place ≡ entryAt (entries (drop (place * versionBytes) s)) 0
+entryAt-entries s place = entryAt-drop (entries s) place ∙ ap (λ (l : List ℕ). entryAt l 0) (drop-entries place s)
+
+-- The entry at a place is the number there
+pub entryAt-some : (s : List ℕ) (place : ℕ) → place * versionBytes + versionBytes ≤ length s
+    → entryAt (entries s) place ≡ some (numberAt s (place * versionBytes))
+unfolding entryAt
+entryAt-some s place h = entryAt-entries s place ∙ rw (entries-step s (place * versionBytes) h)
+
+pub entryAt-none : (s : List ℕ) (place : ℕ) → length s < place * versionBytes + versionBytes → entryAt (entries s) place ≡ none
+unfolding entryAt
+entryAt-none s place h = entryAt-entries s place ∙ rw (entries-end s (place * versionBytes) h)
+
+-- ---- lengths
+
+pub length-entries : (s : List ℕ) → length (entries s) ≡ length s / versionBytes
+unfolding entries
+length-entries [] = omega arith
+length-entries (a ∷ []) = omega arith
+length-entries (a ∷ b ∷ []) = omega arith
+length-entries (a ∷ b ∷ c ∷ []) = omega arith
+length-entries (a ∷ b ∷ c ∷ d ∷ rest) = omega (arith, length-entries rest)
+
+pub length-listBytes : (vs : List ℕ) → length (listBytes vs) ≡ versionBytes * length vs
+unfolding listBytes
+length-listBytes [] = omega arith
+length-listBytes (v ∷ vs) = omega (arith, length-listBytes vs)
+
+pub listBytes-append : (xs ys : List ℕ) → listBytes (xs ++ ys) ≡ listBytes xs ++ listBytes ys
+unfolding listBytes
+listBytes-append [] ys = refl
+listBytes-append (x ∷ xs) ys = ap (λ (l : List ℕ). bytesOf x ++ l) (listBytes-append xs ys)
+
+-- ---- every number of a list is below a bound
+
+unfoldable pub allBelow : ℕ → List ℕ → Bool
+allBelow bound [] = true
+allBelow bound (x ∷ xs) = ltb x bound && allBelow bound xs
+
+both : (a b : Bool) → (a && b) ≡ true → (a ≡ true) × (b ≡ true)
+both true b e = (refl, e)
+both false b e = absurd (false≢true e)
+
+pub allBelow-cons : (bound x : ℕ) (xs : List ℕ) → x < bound → allBelow bound xs ≡ true → allBelow bound (x ∷ xs) ≡ true
+unfolding allBelow
+allBelow-cons bound x xs h e = rw (lt-ltb x bound h) e
+
+pub allBelow-head : (bound x : ℕ) (xs : List ℕ) → allBelow bound (x ∷ xs) ≡ true → (x < bound) × (allBelow bound xs ≡ true)
+unfolding allBelow
+allBelow-head bound x xs e = let p = both (ltb x bound) (allBelow bound xs) e in (ltb-true x bound (p .0), p .1)
+
+-- From each element's bound, which a slice of numbers tells of its elements
+pub allBelow-each : (bound : ℕ) (s : List ℕ) → ((i : ℕ) → i < length s → getD s i 0 < bound) → allBelow bound s ≡ true
+unfolding allBelow
+allBelow-each bound [] h = refl
+allBelow-each bound (x ∷ xs) h =
+    rw (lt-ltb x bound (h 0 (omega arith))) (allBelow-each bound xs (λ i l. h (suc i) (omega arith)))
+
+-- Four bytes in front
+record Four (a b c d : ℕ) (rest : List ℕ) : Type 0 where
+  first : a < 256
+  second : b < 256
+  third : c < 256
+  fourth : d < 256
+  rest : allBelow 256 rest ≡ true
+
+four : (a b c d : ℕ) (rest : List ℕ) → allBelow 256 (a ∷ b ∷ c ∷ d ∷ rest) ≡ true → Four a b c d rest
+four a b c d rest e =
+    let pa = allBelow-head 256 a (b ∷ c ∷ d ∷ rest) e in
+    let pb = allBelow-head 256 b (c ∷ d ∷ rest) (pa .1) in
+    let pc = allBelow-head 256 c (d ∷ rest) (pb .1) in
+    let pd = allBelow-head 256 d rest (pc .1) in
+    record { first = pa .0; second = pb .0; third = pc .0; fourth = pd .0; rest = pd .1 }
+
+-- ---- bytes and entries tell each other
+
+digits : (v p q r x y z : ℕ) → v ≡ p * 256 + x → p ≡ q * 256 + y → q ≡ r * 256 + z → number r z y x ≡ v
+digits v p q r x y z e f g = omega arith
+
+pub number-bytesOf : (v : ℕ) → v < 2 ^ 32 → number (v / 0x1000000 % 256) (v / 0x10000 % 256) (v / 0x100 % 256) (v % 256) ≡ v
+number-bytesOf v h =
+    let p = v / 0x100 in
+    let e2 : v / 0x10000 ≡ p / 256 = omega arith in
+    let e3 : v / 0x1000000 ≡ p / 256 / 256 = omega arith in
+    let l : p / 256 / 256 % 256 ≡ p / 256 / 256 = omega arith in
+    rw (e2, e3, l)
+    (digits v p (p / 256) (p / 256 / 256) (v % 256) (p % 256) (p / 256 % 256)
+    (sym (div-add-mod' v 256)) (sym (div-add-mod' p 256)) (sym (div-add-mod' (p / 256) 256)))
+
+pub bytesOf-number : (a b c d : ℕ) → a < 256 → b < 256 → c < 256 → d < 256
+    → bytesOf (number a b c d) ≡ a ∷ b ∷ c ∷ d ∷ []
+bytesOf-number a b c d ha hb hc hd =
+    let ea : number a b c d / 0x1000000 % 256 ≡ a = omega arith in
+    let eb : number a b c d / 0x10000 % 256 ≡ b = omega arith in
+    let ec : number a b c d / 0x100 % 256 ≡ c = omega arith in
+    let ed : number a b c d % 256 ≡ d = omega arith in
+    cc
+
+-- Four bytes for each version, and the versions again; more bytes behind them are more entries
+pub entries-listBytes-append : (vs rest : List ℕ) → allBelow (2 ^ 32) vs ≡ true
+    → entries (listBytes vs ++ rest) ≡ vs ++ entries rest
+unfolding entries listBytes
+entries-listBytes-append [] rest e = refl
+entries-listBytes-append (v ∷ vs) rest e =
+    let p = allBelow-head (2 ^ 32) v vs e in
+    let n : number (v / 0x1000000 % 256) (v / 0x10000 % 256) (v / 0x100 % 256) (v % 256) ≡ v = number-bytesOf v (p .0) in
+    let r : entries (listBytes vs ++ rest) ≡ vs ++ entries rest = entries-listBytes-append vs rest (p .1) in
+    cc
+
+pub entries-listBytes : (vs : List ℕ) → allBelow (2 ^ 32) vs ≡ true → entries (listBytes vs) ≡ vs
+unfolding entries
+entries-listBytes vs e =
+    ap entries (sym (append-nil (listBytes vs))) ∙ entries-listBytes-append vs [] e ∙ append-nil vs
+
+pub listBytes-entries : (s : List ℕ) → length s % versionBytes ≡ 0 → allBelow 256 s ≡ true → listBytes (entries s) ≡ s
+unfolding entries listBytes
+listBytes-entries [] m e = refl
+listBytes-entries (a ∷ []) m e = absurd (omega arith)
+listBytes-entries (a ∷ b ∷ []) m e = absurd (omega arith)
+listBytes-entries (a ∷ b ∷ c ∷ []) m e = absurd (omega arith)
+listBytes-entries (a ∷ b ∷ c ∷ d ∷ rest) m e =
+    let f = four a b c d rest e in
+    let n : bytesOf (number a b c d) ≡ a ∷ b ∷ c ∷ d ∷ [] = bytesOf-number a b c d (f .first) (f .second) (f .third) (f .fourth) in
+    let r : listBytes (entries rest) ≡ rest = listBytes-entries rest (omega arith) (f .rest) in
+    cc
+
+pub entries-below : (s : List ℕ) → allBelow 256 s ≡ true → allBelow (2 ^ 32) (entries s) ≡ true
+unfolding entries allBelow
+entries-below [] e = refl
+entries-below (a ∷ []) e = refl
+entries-below (a ∷ b ∷ []) e = refl
+entries-below (a ∷ b ∷ c ∷ []) e = refl
+entries-below (a ∷ b ∷ c ∷ d ∷ rest) e =
+    let f = four a b c d rest e in
+    allBelow-cons (2 ^ 32) (number a b c d) (entries rest) (omega arith) (entries-below rest (f .rest))
+
+pub listBytes-below : (vs : List ℕ) → allBelow 256 (listBytes vs) ≡ true
+unfolding listBytes allBelow
+listBytes-below [] = refl
+listBytes-below (v ∷ vs) =
+    let p : v / 0x1000000 % 256 < 256 = omega arith in
+    let q : v / 0x10000 % 256 < 256 = omega arith in
+    let r : v / 0x100 % 256 < 256 = omega arith in
+    let s : v % 256 < 256 = omega arith in
+    rw (lt-ltb _ _ p, lt-ltb _ _ q, lt-ltb _ _ r, lt-ltb _ _ s) (listBytes-below vs)
+
+-- ---- a list put into a buffer, one version more
+
+pub put-step : (vs before buffer : List ℕ) (i : ℕ) → i < length vs
+    → buffer ≡ listBytes (take i vs) ++ drop (i * versionBytes) before
+    → take (i * versionBytes) buffer ++ bytesOf (getD vs i 0) ++ drop (i * versionBytes + versionBytes) buffer
+    ≡ listBytes (take (i + 1) vs) ++ drop ((i + 1) * versionBytes) before
+unfolding listBytes
+put-step vs before buffer i h e =
+    let front = listBytes (take i vs) in
+    let k = i * versionBytes in
+    let m : length (take i vs) ≡ i = length-take-le i vs (omega arith) in
+    let n : length front ≡ k = omega (arith, length-listBytes (take i vs)) in
+    let t : take k buffer ≡ front = rw e (take-at front (drop k before) k n) in
+    let d : drop k buffer ≡ drop k before = rw e (drop-at front (drop k before) k n) in
+    let d4 : drop (k + versionBytes) buffer ≡ drop (k + versionBytes) before =
+        sym (drop-drop versionBytes k buffer) ∙ ap (drop versionBytes) d ∙ drop-drop versionBytes k before in
+    let w : listBytes (take (i + 1) vs) ≡ front ++ bytesOf (getD vs i 0) =
+        rw (add-one, take-suc vs i 0, listBytes-append) in
+    let z : (i + 1) * versionBytes ≡ k + versionBytes = omega arith in
+    rw (z, w, t, d4)
