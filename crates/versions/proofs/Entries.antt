@@ -8,11 +8,11 @@ use native.Mathlib.Nat.{add-zero, div-add-mod'}
 use native.Mathlib.Numerals.{add-one}
 use native.Mathlib.Omega.{arith}
 use lib.Dec.{ltb, eqb}
-use lib.ListN.{length, take, drop, getD, length-append, length-drop}
-use lib.Seq.{getD-drop, drop-drop, take-suc, take-at, drop-at, length-take-le}
-use borrow.Author.Tests.{ltb-true, lt-ltb}
+use lib.ListN.{length, take, drop, getD, set, length-drop}
+use lib.Seq.{getD-drop, drop-drop, take-suc, take-length, take-at, drop-at, length-take-le, sets-eq}
+use borrow.Author.Tests.{ltb-true, lt-ltb, le-leb, lt-leb, eq-eqb, ne-eqb}
 use Rattle.versions.specs.Table.{elem}
-use Rattle.versions.specs.Wire.{number, numberAt, versionBytes, entries, bytesOf, listBytes, entryAt}
+use Rattle.versions.specs.Wire.{number, numberAt, versionBytes, entries, bytesOf, listBytes, entryAt, afterPut}
 
 -- ---- the entries by place
 
@@ -73,6 +73,24 @@ pub entryAt-none : (s : List ℕ) (place : ℕ) → length s < place * versionBy
 unfolding entryAt
 entryAt-none s place h = entryAt-entries s place ∙ rw (entries-end s (place * versionBytes) h)
 
+-- ---- a search by place
+
+-- The entry at a place is the version sought
+pub elem-found : (v : ℕ) (s : List ℕ) (k : ℕ) → k + versionBytes ≤ length s → numberAt s k ≡ v
+    → elem v (entries (drop k s)) ≡ true
+unfolding elem
+elem-found v s k h e = rw (entries-step s k h, eq-eqb _ _ e)
+
+-- The entry at a place is another version: the search goes on behind it
+pub elem-passed : (v : ℕ) (s : List ℕ) (k : ℕ) → k + versionBytes ≤ length s → (numberAt s k ≡ v → ⊥)
+    → elem v (entries (drop k s)) ≡ elem v (entries (drop (k + versionBytes) s))
+unfolding elem
+elem-passed v s k h e = rw (entries-step s k h, ne-eqb _ _ e)
+
+pub elem-end : (v : ℕ) (s : List ℕ) (k : ℕ) → length s < k + versionBytes → elem v (entries (drop k s)) ≡ false
+unfolding elem
+elem-end v s k h = rw (entries-end s k h)
+
 -- ---- lengths
 
 pub length-entries : (s : List ℕ) → length (entries s) ≡ length s / versionBytes
@@ -124,7 +142,7 @@ record Four (a b c d : ℕ) (rest : List ℕ) : Type 0 where
   second : b < 256
   third : c < 256
   fourth : d < 256
-  rest : allBelow 256 rest ≡ true
+  others : allBelow 256 rest ≡ true
 
 four : (a b c d : ℕ) (rest : List ℕ) → allBelow 256 (a ∷ b ∷ c ∷ d ∷ rest) ≡ true → Four a b c d rest
 four a b c d rest e =
@@ -132,7 +150,7 @@ four a b c d rest e =
     let pb = allBelow-head 256 b (c ∷ d ∷ rest) (pa .1) in
     let pc = allBelow-head 256 c (d ∷ rest) (pb .1) in
     let pd = allBelow-head 256 d rest (pc .1) in
-    record { first = pa .0; second = pb .0; third = pc .0; fourth = pd .0; rest = pd .1 }
+    record { first = pa .0; second = pb .0; third = pc .0; fourth = pd .0; others = pd .1 }
 
 -- ---- bytes and entries tell each other
 
@@ -183,7 +201,7 @@ listBytes-entries (a ∷ b ∷ c ∷ []) m e = absurd (omega arith)
 listBytes-entries (a ∷ b ∷ c ∷ d ∷ rest) m e =
     let f = four a b c d rest e in
     let n : bytesOf (number a b c d) ≡ a ∷ b ∷ c ∷ d ∷ [] = bytesOf-number a b c d (f .first) (f .second) (f .third) (f .fourth) in
-    let r : listBytes (entries rest) ≡ rest = listBytes-entries rest (omega arith) (f .rest) in
+    let r : listBytes (entries rest) ≡ rest = listBytes-entries rest (omega arith) (f .others) in
     cc
 
 pub entries-below : (s : List ℕ) → allBelow 256 s ≡ true → allBelow (2 ^ 32) (entries s) ≡ true
@@ -194,7 +212,7 @@ entries-below (a ∷ b ∷ []) e = refl
 entries-below (a ∷ b ∷ c ∷ []) e = refl
 entries-below (a ∷ b ∷ c ∷ d ∷ rest) e =
     let f = four a b c d rest e in
-    allBelow-cons (2 ^ 32) (number a b c d) (entries rest) (omega arith) (entries-below rest (f .rest))
+    allBelow-cons (2 ^ 32) (number a b c d) (entries rest) (omega arith) (entries-below rest (f .others))
 
 pub listBytes-below : (vs : List ℕ) → allBelow 256 (listBytes vs) ≡ true
 unfolding listBytes allBelow
@@ -206,7 +224,18 @@ listBytes-below (v ∷ vs) =
     let s : v % 256 < 256 = omega arith in
     rw (lt-ltb _ _ p, lt-ltb _ _ q, lt-ltb _ _ r, lt-ltb _ _ s) (listBytes-below vs)
 
--- ---- a list put into a buffer, one version more
+-- ---- a list put into a buffer
+
+-- Four stores one after the other
+pub put-four : (l : List ℕ) (i a b c d : ℕ) → i + versionBytes ≤ length l
+    → set (set (set (set l i a) (i + 1) b) (i + 2) c) (i + 3) d ≡ take i l ++ (a ∷ b ∷ c ∷ d ∷ []) ++ drop (i + versionBytes) l
+put-four l i a b c d h =
+    let e1 : i + 1 ≡ suc i = omega arith in
+    let e2 : i + 2 ≡ suc (suc i) = omega arith in
+    let e3 : i + 3 ≡ suc (suc (suc i)) = omega arith in
+    rw (e1, e2, e3) (sets-eq (a ∷ b ∷ c ∷ d ∷ []) l i h)
+
+-- One version more
 
 pub put-step : (vs before buffer : List ℕ) (i : ℕ) → i < length vs
     → buffer ≡ listBytes (take i vs) ++ drop (i * versionBytes) before
@@ -221,8 +250,24 @@ put-step vs before buffer i h e =
     let t : take k buffer ≡ front = rw e (take-at front (drop k before) k n) in
     let d : drop k buffer ≡ drop k before = rw e (drop-at front (drop k before) k n) in
     let d4 : drop (k + versionBytes) buffer ≡ drop (k + versionBytes) before =
-        sym (drop-drop versionBytes k buffer) ∙ ap (drop versionBytes) d ∙ drop-drop versionBytes k before in
+    sym (drop-drop versionBytes k buffer) ∙ ap (drop versionBytes) d ∙ drop-drop versionBytes k before in
     let w : listBytes (take (i + 1) vs) ≡ front ++ bytesOf (getD vs i 0) =
-        rw (add-one, take-suc vs i 0, listBytes-append) in
+    rw (add-one, take-suc vs i 0, listBytes-append) in
     let z : (i + 1) * versionBytes ≡ k + versionBytes = omega arith in
     rw (z, w, t, d4)
+
+-- All versions
+pub put-all : (vs before buffer : List ℕ) (i : ℕ) → i ≡ length vs
+    → buffer ≡ listBytes (take i vs) ++ drop (i * versionBytes) before
+    → buffer ≡ listBytes vs ++ drop (versionBytes * length vs) before
+put-all vs before buffer i e b =
+    let t : take i vs ≡ vs = rw e (take-length vs) in
+    let z : i * versionBytes ≡ versionBytes * length vs = omega arith in
+    b ∙ rw (t, z)
+
+pub afterPut-room : (vs buffer : List ℕ) → versionBytes * length vs ≤ length buffer
+    → afterPut vs buffer ≡ listBytes vs ++ drop (versionBytes * length vs) buffer
+afterPut-room vs buffer h = rw (le-leb _ _ h)
+
+pub afterPut-none : (vs buffer : List ℕ) → length buffer < versionBytes * length vs → afterPut vs buffer ≡ buffer
+afterPut-none vs buffer h = rw (lt-leb _ _ h)
