@@ -1,13 +1,13 @@
 -- Lists of versions on the wire: the entries by place, lengths, and that bytes and entries tell each other.
-use Prim.Native.Nat.{ℕ, zero, suc, _+_, _*_, _-_, _/_, _%_, _^_, _≤_, _<_}
-use mathlib.Core.Bool.{Bool, true, false, _&&_, _||_, false≢true}
+use Prim.Native.Nat.{ℕ, zero, suc, _+_, _*_, _/_, _%_, _^_, _≤_, _<_}
+use mathlib.Core.Bool.{Bool, true, false, _&&_, false≢true}
 use mathlib.Core.Path.{_≡_, refl, sym, ap, _∙_}
-use mathlib.Core.List.{List, [], _∷_, _++_, append-assoc, append-nil}
-use mathlib.Core.Option.{Option, Option.none, Option.some}
+use mathlib.Core.List.{List, [], _∷_, _++_, append-nil}
+use mathlib.Core.Option.{Option.none, Option.some}
 use native.Mathlib.Nat.{add-zero, div-add-mod'}
 use native.Mathlib.Numerals.{add-one}
 use native.Mathlib.Omega.{arith}
-use lib.Dec.{ltb, eqb}
+use lib.Dec.{ltb}
 use lib.ListN.{length, take, drop, getD, set, length-drop}
 use lib.Seq.{getD-drop, drop-drop, take-suc, take-length, take-at, drop-at, length-take-le, sets-eq}
 use borrow.Author.Tests.{ltb-true, lt-ltb, le-leb, lt-leb, eq-eqb, ne-eqb}
@@ -43,15 +43,17 @@ entries-step s k h =
 pub entries-end : (s : List ℕ) (k : ℕ) → length s < k + versionBytes → entries (drop k s) ≡ []
 entries-end s k h = entries-short (drop k s) (simp length-drop (omega arith))
 
+four-more : (i : ℕ) → suc i * versionBytes ≡ suc (suc (suc (suc (i * versionBytes))))
+four-more i = omega arith
+
 pub drop-entries : (i : ℕ) (s : List ℕ) → drop i (entries s) ≡ entries (drop (i * versionBytes) s)
 unfolding entries
 drop-entries zero s = refl
-drop-entries (suc i) [] = let z : suc i * versionBytes ≡ suc (i * versionBytes + 3) = omega arith in rw z
-drop-entries (suc i) (a ∷ []) = let z : suc i * versionBytes ≡ suc (suc (i * versionBytes + 2)) = omega arith in rw z
-drop-entries (suc i) (a ∷ b ∷ []) = let z : suc i * versionBytes ≡ suc (suc (suc (i * versionBytes + 1))) = omega arith in rw z
-drop-entries (suc i) (a ∷ b ∷ c ∷ []) = let z : suc i * versionBytes ≡ suc (suc (suc (suc (i * versionBytes)))) = omega arith in rw z
-drop-entries (suc i) (a ∷ b ∷ c ∷ d ∷ rest) =
-    let z : suc i * versionBytes ≡ suc (suc (suc (suc (i * versionBytes)))) = omega arith in rw z (drop-entries i rest)
+drop-entries (suc i) [] = rw (four-more i)
+drop-entries (suc i) (a ∷ []) = rw (four-more i)
+drop-entries (suc i) (a ∷ b ∷ []) = rw (four-more i)
+drop-entries (suc i) (a ∷ b ∷ c ∷ []) = rw (four-more i)
+drop-entries (suc i) (a ∷ b ∷ c ∷ d ∷ rest) = rw (four-more i) (drop-entries i rest)
 
 entryAt-drop : (vs : List ℕ) (place : ℕ) → entryAt vs place ≡ entryAt (drop place vs) 0
 unfolding entryAt
@@ -60,7 +62,8 @@ entryAt-drop [] (suc place) = refl
 entryAt-drop (v ∷ vs) zero = refl
 entryAt-drop (v ∷ vs) (suc place) = entryAt-drop vs place
 
-entryAt-entries : (s : List ℕ) (place : ℕ) → entryAt (entries s) place ≡ entryAt (entries (drop (place * versionBytes) s)) 0
+entryAt-entries : (s : List ℕ) (place : ℕ)
+    → entryAt (entries s) place ≡ entryAt (entries (drop (place * versionBytes) s)) 0
 entryAt-entries s place = entryAt-drop (entries s) place ∙ ap (λ (l : List ℕ). entryAt l 0) (drop-entries place s)
 
 -- The entry at a place is the number there
@@ -69,7 +72,8 @@ pub entryAt-some : (s : List ℕ) (place : ℕ) → place * versionBytes + versi
 unfolding entryAt
 entryAt-some s place h = entryAt-entries s place ∙ rw (entries-step s (place * versionBytes) h)
 
-pub entryAt-none : (s : List ℕ) (place : ℕ) → length s < place * versionBytes + versionBytes → entryAt (entries s) place ≡ none
+pub entryAt-none : (s : List ℕ) (place : ℕ) → length s < place * versionBytes + versionBytes
+    → entryAt (entries s) place ≡ none
 unfolding entryAt
 entryAt-none s place h = entryAt-entries s place ∙ rw (entries-end s (place * versionBytes) h)
 
@@ -121,20 +125,45 @@ both : (a b : Bool) → (a && b) ≡ true → (a ≡ true) × (b ≡ true)
 both true b e = (refl, e)
 both false b e = absurd (false≢true e)
 
-pub allBelow-cons : (bound x : ℕ) (xs : List ℕ) → x < bound → allBelow bound xs ≡ true → allBelow bound (x ∷ xs) ≡ true
+pub allBelow-cons : (bound x : ℕ) (xs : List ℕ) → x < bound → allBelow bound xs ≡ true
+    → allBelow bound (x ∷ xs) ≡ true
 unfolding allBelow
 allBelow-cons bound x xs h e = rw (lt-ltb x bound h) e
 
-pub allBelow-head : (bound x : ℕ) (xs : List ℕ) → allBelow bound (x ∷ xs) ≡ true → (x < bound) × (allBelow bound xs ≡ true)
+pub allBelow-head : (bound x : ℕ) (xs : List ℕ) → allBelow bound (x ∷ xs) ≡ true
+    → (x < bound) × (allBelow bound xs ≡ true)
 unfolding allBelow
 allBelow-head bound x xs e = let p = both (ltb x bound) (allBelow bound xs) e in (ltb-true x bound (p .0), p .1)
 
 -- From each element's bound, which a slice of numbers tells of its elements
-pub allBelow-each : (bound : ℕ) (s : List ℕ) → ((i : ℕ) → i < length s → getD s i 0 < bound) → allBelow bound s ≡ true
+pub allBelow-each : (bound : ℕ) (s : List ℕ)
+    → ((i : ℕ) → i < length s → getD s i 0 < bound) → allBelow bound s ≡ true
 unfolding allBelow
 allBelow-each bound [] h = refl
 allBelow-each bound (x ∷ xs) h =
     rw (lt-ltb x bound (h 0 (omega arith))) (allBelow-each bound xs (λ i l. h (suc i) (omega arith)))
+
+pub allBelow-append : (bound : ℕ) (xs ys : List ℕ) → allBelow bound xs ≡ true → allBelow bound ys ≡ true
+    → allBelow bound (xs ++ ys) ≡ true
+unfolding allBelow
+allBelow-append bound [] ys e f = f
+allBelow-append bound (x ∷ xs) ys e f =
+    let p = allBelow-head bound x xs e in
+    allBelow-cons bound x (xs ++ ys) (p .0) (allBelow-append bound xs ys (p .1) f)
+
+pub allBelow-take : (bound n : ℕ) (s : List ℕ) → allBelow bound s ≡ true → allBelow bound (take n s) ≡ true
+unfolding allBelow
+allBelow-take bound zero s e = refl
+allBelow-take bound (suc n) [] e = refl
+allBelow-take bound (suc n) (x ∷ xs) e =
+    let p = allBelow-head bound x xs e in
+    allBelow-cons bound x (take n xs) (p .0) (allBelow-take bound n xs (p .1))
+
+pub allBelow-drop : (bound n : ℕ) (s : List ℕ) → allBelow bound s ≡ true → allBelow bound (drop n s) ≡ true
+unfolding allBelow
+allBelow-drop bound zero s e = e
+allBelow-drop bound (suc n) [] e = refl
+allBelow-drop bound (suc n) (x ∷ xs) e = allBelow-drop bound n xs (allBelow-head bound x xs e .1)
 
 -- Four bytes in front
 record Four (a b c d : ℕ) (rest : List ℕ) : Type 0 where
@@ -157,7 +186,8 @@ four a b c d rest e =
 digits : (v p q r x y z : ℕ) → v ≡ p * 256 + x → p ≡ q * 256 + y → q ≡ r * 256 + z → number r z y x ≡ v
 digits v p q r x y z e f g = omega arith
 
-pub number-bytesOf : (v : ℕ) → v < 2 ^ 32 → number (v / 0x1000000 % 256) (v / 0x10000 % 256) (v / 0x100 % 256) (v % 256) ≡ v
+pub number-bytesOf : (v : ℕ) → v < 2 ^ 32
+    → number (v / 0x1000000 % 256) (v / 0x10000 % 256) (v / 0x100 % 256) (v % 256) ≡ v
 number-bytesOf v h =
     let p = v / 0x100 in
     let e2 : v / 0x10000 ≡ p / 256 = omega arith in
@@ -192,7 +222,9 @@ unfolding entries
 entries-listBytes vs e =
     ap entries (sym (append-nil (listBytes vs))) ∙ entries-listBytes-append vs [] e ∙ append-nil vs
 
-pub listBytes-entries : (s : List ℕ) → length s % versionBytes ≡ 0 → allBelow 256 s ≡ true → listBytes (entries s) ≡ s
+-- Whole fours of bytes, and the bytes again
+pub listBytes-entries : (s : List ℕ) → length s % versionBytes ≡ 0 → allBelow 256 s ≡ true
+    → listBytes (entries s) ≡ s
 unfolding entries listBytes
 listBytes-entries [] m e = refl
 listBytes-entries (a ∷ []) m e = absurd (omega arith)
@@ -200,7 +232,7 @@ listBytes-entries (a ∷ b ∷ []) m e = absurd (omega arith)
 listBytes-entries (a ∷ b ∷ c ∷ []) m e = absurd (omega arith)
 listBytes-entries (a ∷ b ∷ c ∷ d ∷ rest) m e =
     let f = four a b c d rest e in
-    let n : bytesOf (number a b c d) ≡ a ∷ b ∷ c ∷ d ∷ [] = bytesOf-number a b c d (f .first) (f .second) (f .third) (f .fourth) in
+    let n = bytesOf-number a b c d (f .first) (f .second) (f .third) (f .fourth) in
     let r : listBytes (entries rest) ≡ rest = listBytes-entries rest (omega arith) (f .others) in
     cc
 
@@ -228,7 +260,8 @@ listBytes-below (v ∷ vs) =
 
 -- Four stores one after the other
 pub put-four : (l : List ℕ) (i a b c d : ℕ) → i + versionBytes ≤ length l
-    → set (set (set (set l i a) (i + 1) b) (i + 2) c) (i + 3) d ≡ take i l ++ (a ∷ b ∷ c ∷ d ∷ []) ++ drop (i + versionBytes) l
+    → set (set (set (set l i a) (i + 1) b) (i + 2) c) (i + 3) d
+    ≡ take i l ++ (a ∷ b ∷ c ∷ d ∷ []) ++ drop (i + versionBytes) l
 put-four l i a b c d h =
     let e1 : i + 1 ≡ suc i = omega arith in
     let e2 : i + 2 ≡ suc (suc i) = omega arith in
@@ -236,7 +269,6 @@ put-four l i a b c d h =
     rw (e1, e2, e3) (sets-eq (a ∷ b ∷ c ∷ d ∷ []) l i h)
 
 -- One version more
-
 pub put-step : (vs before buffer : List ℕ) (i : ℕ) → i < length vs
     → buffer ≡ listBytes (take i vs) ++ drop (i * versionBytes) before
     → take (i * versionBytes) buffer ++ bytesOf (getD vs i 0) ++ drop (i * versionBytes + versionBytes) buffer

@@ -5,7 +5,7 @@ use native.Mathlib.Omega.{arith}
 use lib.ListN.{length, drop}
 use denote.Ref.{now}
 use Rattle.versions.specs.Table.{elem}
-use Rattle.versions.specs.Wire.{entries, versionBytes}
+use Rattle.versions.specs.Wire.{entries, numberAt, versionBytes}
 use Rattle.versions.proofs.Entries.{elem-found, elem-passed, elem-end}
 use Rattle.versions.proofs.wire.contains_in_bytes.Statement.{statement}
 use Rattle.versions.proofs.wire.contains_in_bytes.Tie as tie
@@ -32,9 +32,9 @@ returns : tie.Need-returns Inv-loop μ-loop
 returns c =
     let here = c .before .before .before in
     let args = here .before .before .args in
-    sym
-    (here .loop .inv .2
-    ∙ elem-found (args .version) (now (args .bytes)) (here .loop .i * versionBytes) (omega arith) (sym (c .before .number-at .ensures) ∙ c .if1 .taken))
+    let same = sym (c .before .number-at .ensures) ∙ c .if1 .taken in
+    let found = elem-found (args .version) (now (args .bytes)) (here .loop .i * versionBytes) (omega arith) same in
+    sym (here .loop .inv .2 ∙ found)
 
 add-i : tie.Need-add-i Inv-loop μ-loop
 add-i c = omega arith
@@ -47,7 +47,9 @@ loop-again c =
     let here = c .before .before .before in
     let args = here .before .before .args in
     let next : here .loop .i * versionBytes + versionBytes ≡ (here .loop .i + 1) * versionBytes = omega arith in
-    let passed = elem-passed (args .version) (now (args .bytes)) (here .loop .i * versionBytes) (omega arith) (λ e. c .if1 .left (c .before .number-at .ensures ∙ e)) in
+    let k = here .loop .i * versionBytes in
+    let other : numberAt (now (args .bytes)) k ≡ args .version → ⊥ = λ e. c .if1 .left (c .before .number-at .ensures ∙ e) in
+    let passed = elem-passed (args .version) (now (args .bytes)) k (omega arith) other in
     (omega arith, refl, here .loop .inv .2 ∙ rw next at passed)
 
 returns-2 : tie.Need-returns-2 Inv-loop μ-loop

@@ -53,7 +53,8 @@ loop-again : tie.Need-loop-again Inv-loop μ-loop
 loop-again c =
     let here = c .before .before .before .before .before .before in
     let args = here .before .before .before .before .args in
-    let step = put-step (now (args .versions)) (now (args .buffer)) (here .loop .buffer) (here .loop .i) (omega arith) (here .loop .inv .3) in
+    let vs = now (args .versions) in
+    let step = put-step vs (now (args .buffer)) (here .loop .buffer) (here .loop .i) (omega arith) (here .loop .inv .3) in
     (omega arith, refl, c .before .before .put-at .kept .0 ∙ here .loop .inv .2, c .before .before .put-at .ensures ∙ step)
 
 same-length : tie.Need-same-length Inv-loop μ-loop
@@ -64,7 +65,8 @@ returns-2 c =
     let here = c .before in
     let args = here .before .before .before .before .args in
     let room : versionBytes * length (now (args .versions)) ≤ length (now (args .buffer)) = omega arith in
-    let put = put-all (now (args .versions)) (now (args .buffer)) (here .loop .buffer) (here .loop .i) (omega arith) (here .loop .inv .3) in
+    let vs = now (args .versions) in
+    let put = put-all vs (now (args .buffer)) (here .loop .buffer) (here .loop .i) (omega arith) (here .loop .inv .3) in
     (sym (le-leb _ _ room), put ∙ sym (afterPut-room (now (args .versions)) (now (args .buffer)) room))
 
 pub put-list-spec : {M : Type 1} → statement M
