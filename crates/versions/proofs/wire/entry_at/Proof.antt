@@ -1,25 +1,24 @@
+-- `entry_at`: the number at a place below the count is the entry there, and there is none at the count or past it.
+use Prim.Native.Nat.{_+_, _*_, _≤_, _<_}
+use mathlib.Core.Path.{sym, ap, _∙_}
+use mathlib.Core.Option.{Option.some}
+use native.Mathlib.Omega.{arith}
 use borrow.Author.Needs.{needs}
+use Rattle.versions.proofs.Entries.{entryAt-some, entryAt-none}
 use Rattle.versions.proofs.wire.entry_at.Statement.{statement}
 use Rattle.versions.proofs.wire.entry_at.Tie as tie
-use Rattle.versions.proofs.wire.entry_at.Reads as reads
-use Rattle.versions.proofs.wire.entry_at.Lts as lts
-use Rattle.versions.proofs.wire.number_at.Reads as number-at-reads
 
--- src/wire.rt:39:41
 mul-number-at : tie.Need-mul-number-at
 mul-number-at c = search needs
 
--- src/wire.rt:39:24
 number-at-requires : tie.Need-number-at-requires
 number-at-requires c κs = search needs
 
--- src/wire.rt:35:1
 returns : tie.Need-returns
-returns c = ?
+returns c = ap some (c .number-at .ensures) ∙ sym (entryAt-some _ _ (omega arith))
 
--- src/wire.rt:35:1
 returns-2 : tie.Need-returns-2
-returns-2 c = ?
+returns-2 c = sym (entryAt-none _ _ (omega arith))
 
 pub entry-at-spec : {M : Type 1} → statement M
 entry-at-spec = tie.close (tie.spec mul-number-at number-at-requires returns returns-2)
