@@ -1,14 +1,15 @@
 -- A walk over a list, entry by entry: at each place i the rest `drop i xs` answers for the whole. Each definition
 -- of specs/ over a list is read here at such a rest: what its first entry decides, what it leaves, and the end.
-use Prim.Native.Nat.{ℕ, _+_, _<_, _≤_}
+use Prim.Native.Nat.{ℕ, _+_, _-_, _<_, _≤_}
 use mathlib.Core.Bool.{Bool, true, false, not}
 use mathlib.Core.List.{List, [], _∷_}
 use mathlib.Core.Option.{Option.none, Option.some}
 use mathlib.Core.Path.{_≡_, refl, ap}
+use native.Mathlib.Nat.{le-refl}
 use native.Mathlib.Numerals.{add-one}
 use lib.Dec.{eqb}
-use lib.ListN.{length, drop, getD, drop-of-length-le}
-use lib.Seq.{drop-cons}
+use lib.ListN.{length, take, drop, getD, length-drop, drop-of-length-le}
+use lib.Seq.{drop-cons, take-all}
 use borrow.Author.Tests.{eq-eqb, ne-eqb}
 use Rattle.versions.specs.Choice.{preferred}
 use Rattle.versions.specs.Pairs.{fromOf, toOf, pairKeepsRule, eachPairKeepsRule, paired}
@@ -18,6 +19,10 @@ use Rattle.versions.specs.Version.{usable}
 -- The rest at a place is the entry there and the rest after it
 pub drop-next : {A : Type 0} (xs : List A) (i : ℕ) (d : A) → i < length xs → drop i xs ≡ getD xs i d ∷ drop (i + 1) xs
 drop-next xs i d h = rw (add-one, drop-cons xs i d)
+
+-- A part from a place to the end is the rest there
+pub part-rest : {A : Type 0} (xs : List A) (i : ℕ) → take (length xs - i) (drop i xs) ≡ drop i xs
+part-rest xs i = take-all (length xs - i) (drop i xs) (rw (length-drop i xs) (le-refl (length xs - i)))
 
 -- `elem`, version v
 module _ (v : ℕ) (xs : List ℕ) (i : ℕ) where
@@ -32,6 +37,9 @@ module _ (v : ℕ) (xs : List ℕ) (i : ℕ) where
   pub elem-end : length xs ≤ i → elem v (drop i xs) ≡ false
   unfolding elem
   elem-end h = rw (drop-of-length-le xs h)
+
+  pub elem-part : elem v (take (length xs - i) (drop i xs)) ≡ elem v (drop i xs)
+  elem-part = ap (elem v) (part-rest xs i)
 
 -- `entriesKeepRule`
 module _ (xs : List ℕ) (i : ℕ) where

@@ -1,63 +1,74 @@
+-- `choose_from_bytes` meets its contract. The loop's invariant: the rest of the table answers for the whole.
+use Prim.Native.Nat.{_≤_, _-_}
+use mathlib.Core.Path.{_≡_, sym, _∙_}
+use native.Mathlib.Omega.{arith}
+use borrow.Author.Needs.{needs}
+use borrow.Author.Tests.{not-true, not-false}
+use lib.ListN.{length}
+use Rattle.versions.specs.Choice.{choose}
+use Rattle.versions.specs.Wire.{entries}
+use Rattle.versions.proofs.Chosen.{chosenBy, list-too-long, bad-table, choose-walk, choose-here, choose-next, nothing-in-common}
+use Rattle.versions.proofs.Entries.{length-entries}
 use Rattle.versions.proofs.choosing.choose_from_bytes.Statement.{statement}
 use Rattle.versions.proofs.choosing.choose_from_bytes.Tie as tie
-use Rattle.versions.proofs.choosing.choose_from_bytes.Reads as reads
-use Rattle.versions.proofs.choosing.choose_from_bytes.Lts as lts
-use Rattle.versions.proofs.table.is_table.Reads as is-table-reads
-use Rattle.versions.proofs.wire.contains_in_bytes.Reads as contains-in-bytes-reads
 
 abbrev Inv-loop : tie.InvT-loop
-Inv-loop table bytes i₀ i = ?
+Inv-loop table bytes i₀ i = (i ≤ length table) × (choose table (entries bytes) ≡ chosenBy table (entries bytes) i)
 
 abbrev μ-loop : tie.MeasureT-loop
-μ-loop table bytes i₀ i = ?
+μ-loop table bytes i₀ i = length table - i
 
--- src/choosing.rt:41:9
 returns : tie.Need-returns Inv-loop μ-loop
-returns c = ?
+returns c = sym (list-too-long _ _ (rw (length-entries _) (c .if1 .taken)))
 
--- src/choosing.rt:43:9
 is-table-requires : tie.Need-is-table-requires Inv-loop μ-loop
-is-table-requires c κs = ?
+is-table-requires c κs = search needs
 
--- src/choosing.rt:44:9
 returns-2 : tie.Need-returns-2 Inv-loop μ-loop
-returns-2 c = ?
+returns-2 c =
+    sym
+    (bad-table _ _ (rw (length-entries _) (c .before .before .if1 .left))
+    (sym (c .before .is-table .ensures) ∙ not-true _ (c .if2 .taken)))
 
--- src/choosing.rt:47:5
 loop-holds : tie.Need-loop-holds Inv-loop μ-loop
-loop-holds c = ?
+loop-holds c = (
+  omega arith,
+  choose-walk _ _ (rw (length-entries _) (c .before .before .if1 .left))
+      (sym (c .before .is-table .ensures) ∙ not-false _ (c .if2 .left)),
+)
 
--- src/choosing.rt:48:23
 mul-version : tie.Need-mul-version Inv-loop μ-loop
-mul-version c = ?
+mul-version c = search needs
 
--- src/choosing.rt:48:23
 shared-slice-read-version : tie.Need-shared-slice-read-version Inv-loop μ-loop
-shared-slice-read-version c = ?
+shared-slice-read-version c = omega arith
 
--- src/choosing.rt:49:12
 contains-in-bytes-requires : tie.Need-contains-in-bytes-requires Inv-loop μ-loop
-contains-in-bytes-requires c κs = ?
+contains-in-bytes-requires c κs = search needs
 
--- src/choosing.rt:50:13
 returns-3 : tie.Need-returns-3 Inv-loop μ-loop
-returns-3 c = ?
+returns-3 c =
+    sym
+    (c .before .before .before .before .loop .inv .1 ∙
+    choose-here _ _ _ (c .before .before .before .loop-test .taken)
+    (sym (c .before .contains-in-bytes .ensures) ∙ c .if3 .taken))
 
--- src/choosing.rt:52:9
 add-i : tie.Need-add-i Inv-loop μ-loop
-add-i c = ?
+add-i c = omega arith
 
--- src/choosing.rt:47:5
 loop-less : tie.Need-loop-less Inv-loop μ-loop
-loop-less c = ?
+loop-less c = omega arith
 
--- src/choosing.rt:47:5
 loop-again : tie.Need-loop-again Inv-loop μ-loop
-loop-again c = ?
+loop-again c = (
+  omega arith,
+  c .before .before .before .before .loop .inv .1 ∙
+      choose-next _ _ _ (c .before .before .before .loop-test .taken)
+      (sym (c .before .contains-in-bytes .ensures) ∙ c .if3 .left),
+)
 
--- src/choosing.rt:37:1
 returns-4 : tie.Need-returns-4 Inv-loop μ-loop
-returns-4 c = ?
+returns-4 c = sym (c .before .loop .inv .1 ∙ nothing-in-common _ _ _ (c .loop-test .left))
 
 pub choose-from-bytes-spec : {M : Type 1} → statement M
 choose-from-bytes-spec =

@@ -1,25 +1,19 @@
 -- `is_table` meets its contract. The loop's invariant: the rest of the table answers for the entries' rule of the
 -- whole.
-use Prim.Native.Nat.{_<_, _≤_, _-_, _+_}
-use mathlib.Core.Bool.{true, false}
-use mathlib.Core.Path.{_≡_, refl, sym, _∙_}
+use Prim.Native.Nat.{_+_, _-_, _≤_}
+use mathlib.Core.Path.{_≡_, sym, _∙_}
 use native.Mathlib.Omega.{arith}
 use borrow.Author.Needs.{needs}
 use borrow.Author.Tests.{lt-leb, le-leb, not-true, not-false}
 use lib.ListN.{length, drop, getD}
 use Rattle.versions.specs.Table.{elem, entriesKeepRule, tableKeepsRule}
-use Rattle.versions.specs.Version.{usable}
-use Rattle.versions.proofs.Lists.{entries-unusable, entries-twice, entries-next, entries-end}
+use Rattle.versions.proofs.Lists.{entries-unusable, entries-twice, entries-next, entries-end, elem-part}
 use Rattle.versions.proofs.table.is_table.Statement.{statement}
 use Rattle.versions.proofs.table.is_table.Tie as tie
-use Rattle.versions.proofs.table.is_table.Reads as reads
-use Rattle.versions.proofs.table.is_table.Lts as lts
-use Rattle.versions.proofs.table.contains.Reads as contains-reads
-use Rattle.versions.proofs.table.is_usable.Reads as is-usable-reads
 
 abbrev Inv-loop : tie.InvT-loop
 Inv-loop table count i₀ i =
-    (i ≤ length table) × ((count ≡ length table) × (tableKeepsRule table ≡ entriesKeepRule (drop i table)))
+    (i ≤ length table) × (tableKeepsRule table ≡ entriesKeepRule (drop i table))
 
 abbrev μ-loop : tie.MeasureT-loop
 μ-loop table count i₀ i = length table - i
@@ -34,7 +28,7 @@ returns-2 c = rw (le-leb _ _ (c .before .if1 .left), lt-leb _ _ (c .if2 .taken))
 
 loop-holds : tie.Need-loop-holds Inv-loop μ-loop
 unfolding tableKeepsRule
-loop-holds c = (omega arith, (refl, rw (le-leb _ _ (c .before .if1 .left), le-leb _ _ (c .if2 .left))))
+loop-holds c = (omega arith, rw (le-leb _ _ (c .before .if1 .left), le-leb _ _ (c .if2 .left)))
 
 mul-version : tie.Need-mul-version Inv-loop μ-loop
 mul-version c = search needs
@@ -49,7 +43,11 @@ is-usable-requires : tie.Need-is-usable-requires Inv-loop μ-loop
 is-usable-requires c κs = search needs
 
 returns-3 : tie.Need-returns-3 Inv-loop μ-loop
-returns-3 c = ?
+returns-3 c =
+    sym
+    (c .before .before .before .before .loop .inv .1 ∙
+    entries-unusable _ _ (c .before .before .before .loop-test .taken)
+    (sym (c .before .is-usable .ensures) ∙ not-true _ (c .if3 .taken)))
 
 mul-contains : tie.Need-mul-contains Inv-loop μ-loop
 mul-contains c = search needs
@@ -66,17 +64,38 @@ part-contains-end c = search needs
 contains-requires : tie.Need-contains-requires Inv-loop μ-loop
 contains-requires c κs = search needs
 
+-- Whether the entry at the loop's place occurs after it, as `contains` answers
+elem-later :
+    (c : tie.After-contains Inv-loop μ-loop) →
+    let at = c .before .before .before .before .before .before in
+    let table = at .before .before .before .before .args .table .now in
+    elem (getD table (at .loop .i) 0) (drop (at .loop .i + 1) table) ≡ c .contains .result
+elem-later c =
+    let at = c .before .before .before .before .before .before in
+    sym (c .contains .ensures ∙ elem-part _ (at .before .before .before .before .args .table .now) (at .loop .i + 1))
+
 returns-4 : tie.Need-returns-4 Inv-loop μ-loop
-returns-4 c = ?
+returns-4 c =
+    sym
+    (c .before .before .before .before .before .before .before .loop .inv .1 ∙
+    entries-twice _ _ (c .before .before .before .before .before .before .loop-test .taken)
+    (sym (c .before .before .before .before .is-usable .ensures) ∙ not-false _ (c .before .before .before .if3 .left))
+    (elem-later (c .before) ∙ c .if4 .taken))
 
 loop-less : tie.Need-loop-less Inv-loop μ-loop
 loop-less c = omega arith
 
 loop-again : tie.Need-loop-again Inv-loop μ-loop
-loop-again c = ?
+loop-again c = (
+  omega arith,
+  c .before .before .before .before .before .before .before .loop .inv .1 ∙
+      entries-next _ _ (c .before .before .before .before .before .before .loop-test .taken)
+      (sym (c .before .before .before .before .is-usable .ensures) ∙ not-false _ (c .before .before .before .if3 .left))
+      (elem-later (c .before) ∙ c .if4 .left),
+)
 
 returns-5 : tie.Need-returns-5 Inv-loop μ-loop
-returns-5 c = ?
+returns-5 c = sym (c .before .loop .inv .1 ∙ entries-end _ _ (c .loop-test .left))
 
 pub is-table-spec : {M : Type 1} → statement M
 is-table-spec =
