@@ -7,6 +7,7 @@ use Rattle.refusals.specs.Reply.{Reply, refuse}
 use Rattle.refusals.specs.declared.Call.{Call}
 
 infix 15 _when_
+
 pub data Rule : Type 0 where
   _when_ : ℕ → Bool → Rule
 

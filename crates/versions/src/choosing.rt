@@ -2,6 +2,7 @@
 ghost use mathlib.Core.Path.{_≡_};
 ghost use Rattle.versions.specs.Choice.{choose, choiceReply};
 ghost use Rattle.versions.specs.Wire.{entries};
+
 use crate::Choice;
 use crate::MAX_LIST;
 use crate::table::contains;

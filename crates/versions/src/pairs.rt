@@ -1,6 +1,7 @@
 // Tables of compatible pairs (from, to). Pairs are neither turned round nor chained.
 ghost use mathlib.Core.Path.{_≡_};
 ghost use Rattle.versions.specs.Pairs.{paired, pairKeepsRule, pairsKeepRule};
+
 use crate::MAX_PAIRS;
 use crate::table::is_usable;
 

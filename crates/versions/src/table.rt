@@ -2,6 +2,7 @@
 ghost use mathlib.Core.Path.{_≡_};
 ghost use Rattle.versions.specs.Table.{elem, tableKeepsRule};
 ghost use Rattle.versions.specs.Version.{reserved, usable};
+
 use crate::MAX_TABLE;
 
 // Whether the low half of each byte of the version is 10 (0x?a?a?a?a, RFC 9000 section 15).

@@ -6,6 +6,7 @@ ghost use lib.Dec.{leb};
 ghost use lib.ListN.{length, take, drop};
 ghost use Rattle.versions.specs.Table.{elem};
 ghost use Rattle.versions.specs.Wire.{number, numberAt, entries, entryAt, entryReply, bytesOf, versionBytes, afterPut};
+
 use crate::Entry;
 
 fn wide(byte: u8) -> u32

@@ -19,44 +19,40 @@ returns-2 c =
 
 returns-3 : tie.Need-returns-3
 returns-3 c =
-    rw (
-      by-ranges _ (byte (c .before .before .before)),
-      le-ltb _ _ (c .before .before .if1 .left),
-      lt-leb _ _ (c .before .if2 .left),
-      eq-eqb _ _ (c .if3 .taken),
-    )
+    rw
+    (by-ranges _ (byte (c .before .before .before)),
+    le-ltb _ _ (c .before .before .if1 .left),
+    lt-leb _ _ (c .before .if2 .left),
+    eq-eqb _ _ (c .if3 .taken))
 
 returns-4 : tie.Need-returns-4
 returns-4 c =
-    rw (
-      by-ranges _ (byte (c .before .before .before .before)),
-      le-ltb _ _ (c .before .before .before .if1 .left),
-      lt-leb _ _ (c .before .before .if2 .left),
-      ne-eqb _ _ (c .before .if3 .left),
-      lt-ltb _ _ (c .if4 .taken),
-    )
+    rw
+    (by-ranges _ (byte (c .before .before .before .before)),
+    le-ltb _ _ (c .before .before .before .if1 .left),
+    lt-leb _ _ (c .before .before .if2 .left),
+    ne-eqb _ _ (c .before .if3 .left),
+    lt-ltb _ _ (c .if4 .taken))
 
 returns-5 : tie.Need-returns-5
 returns-5 c =
-    rw (
-      by-ranges _ (byte (c .before .before .before .before .before)),
-      le-ltb _ _ (c .before .before .before .before .if1 .left),
-      lt-leb _ _ (c .before .before .before .if2 .left),
-      ne-eqb _ _ (c .before .before .if3 .left),
-      le-ltb _ _ (c .before .if4 .left),
-      le-leb _ _ (c .if5 .taken),
-    )
+    rw
+    (by-ranges _ (byte (c .before .before .before .before .before)),
+    le-ltb _ _ (c .before .before .before .before .if1 .left),
+    lt-leb _ _ (c .before .before .before .if2 .left),
+    ne-eqb _ _ (c .before .before .if3 .left),
+    le-ltb _ _ (c .before .if4 .left),
+    le-leb _ _ (c .if5 .taken))
 
 returns-6 : tie.Need-returns-6
 returns-6 c =
-    rw (
-      by-ranges _ (byte (c .before .before .before .before .before)),
-      le-ltb _ _ (c .before .before .before .before .if1 .left),
-      lt-leb _ _ (c .before .before .before .if2 .left),
-      ne-eqb _ _ (c .before .before .if3 .left),
-      le-ltb _ _ (c .before .if4 .left),
-      lt-leb _ _ (c .if5 .left),
-    )
+    rw
+    (by-ranges _ (byte (c .before .before .before .before .before)),
+    le-ltb _ _ (c .before .before .before .before .if1 .left),
+    lt-leb _ _ (c .before .before .before .if2 .left),
+    ne-eqb _ _ (c .before .before .if3 .left),
+    le-ltb _ _ (c .before .if4 .left),
+    lt-leb _ _ (c .if5 .left))
 
 pub code-in-the-table-spec : {M : Type 1} → statement M
 code-in-the-table-spec =
