@@ -1,3 +1,5 @@
+pub mod Chosen
 pub mod Entries
 pub mod Laws
+pub mod Lists
 pub mod Worked

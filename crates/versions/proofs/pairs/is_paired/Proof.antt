@@ -1,53 +1,60 @@
+-- `is_paired` meets its contract. The loop's invariant: the rest of the pairs answers for the whole.
+use Prim.Native.Nat.{_≤_, _-_}
+use mathlib.Core.Logic.{⊎-elim}
+use mathlib.Core.Path.{_≡_, refl, sym, _∙_}
+use native.Mathlib.Omega.{arith}
+use borrow.Author.Needs.{needs}
+use lib.ListN.{length, drop}
+use Rattle.versions.specs.Pairs.{paired}
+use Rattle.versions.proofs.Lists.{paired-here, paired-not-from, paired-not-to, paired-end}
 use Rattle.versions.proofs.pairs.is_paired.Statement.{statement}
 use Rattle.versions.proofs.pairs.is_paired.Tie as tie
-use Rattle.versions.proofs.pairs.is_paired.Reads as reads
-use Rattle.versions.proofs.pairs.is_paired.Lts as lts
 
 abbrev Inv-loop : tie.InvT-loop
-Inv-loop pairs from to i₀ i = ?
+Inv-loop pairs from to i₀ i = (i ≤ length pairs) × (paired pairs from to ≡ paired (drop i pairs) from to)
 
 abbrev μ-loop : tie.MeasureT-loop
-μ-loop pairs from to i₀ i = ?
+μ-loop pairs from to i₀ i = length pairs - i
 
--- src/pairs.rt:46:5
 loop-holds : tie.Need-loop-holds Inv-loop μ-loop
-loop-holds c = ?
+loop-holds c = (omega arith, refl)
 
--- src/pairs.rt:47:20
 mul-pair : tie.Need-mul-pair Inv-loop μ-loop
-mul-pair c = ?
+mul-pair c = search needs
 
--- src/pairs.rt:47:20
 shared-slice-copy-out-pair : tie.Need-shared-slice-copy-out-pair Inv-loop μ-loop
-shared-slice-copy-out-pair c = ?
+shared-slice-copy-out-pair c = omega arith
 
--- src/pairs.rt:48:12
 array-read-if1 : tie.Need-array-read-if1 Inv-loop μ-loop
-array-read-if1 c = ?
+array-read-if1 c = search needs
 
--- src/pairs.rt:49:16
 array-read-if2 : tie.Need-array-read-if2 Inv-loop μ-loop
-array-read-if2 c = ?
+array-read-if2 c = search needs
 
--- src/pairs.rt:50:17
 returns : tie.Need-returns Inv-loop μ-loop
-returns c = ?
+returns c =
+    sym
+    (c .before .before .before .before .loop .inv .1 ∙
+    paired-here _ _ _ _ (c .before .before .before .loop-test .taken) (c .before .if1 .taken) (c .if2 .taken))
 
--- src/pairs.rt:53:9
 add-i : tie.Need-add-i Inv-loop μ-loop
-add-i c = ?
+add-i c = omega arith
 
--- src/pairs.rt:46:5
 loop-less : tie.Need-loop-less Inv-loop μ-loop
-loop-less c = ?
+loop-less c = omega arith
 
--- src/pairs.rt:46:5
 loop-again : tie.Need-loop-again Inv-loop μ-loop
-loop-again c = ?
+loop-again c = (
+  omega arith,
+  c .before .before .before .loop .inv .1 ∙
+      ⊎-elim
+      (λ w. paired-not-to _ _ _ _ (c .before .before .loop-test .taken) (w .0 .taken) (w .1 .left))
+      (λ w. paired-not-from _ _ _ _ (c .before .before .loop-test .taken) (w .left))
+      (c .if1 .came),
+)
 
--- src/pairs.rt:42:1
 returns-2 : tie.Need-returns-2 Inv-loop μ-loop
-returns-2 c = ?
+returns-2 c = sym (c .before .loop .inv .1 ∙ paired-end _ _ _ _ (c .loop-test .left))
 
 pub is-paired-spec : {M : Type 1} → statement M
 is-paired-spec =

@@ -1,45 +1,50 @@
+-- `contains` meets its contract. The loop's invariant: the rest of the list answers for the whole.
+use Prim.Native.Nat.{_≤_, _-_}
+use mathlib.Core.Path.{_≡_, refl, sym, _∙_}
+use native.Mathlib.Omega.{arith}
+use borrow.Author.Needs.{needs}
+use lib.ListN.{length, drop}
+use Rattle.versions.specs.Table.{elem}
+use Rattle.versions.proofs.Lists.{elem-here, elem-next, elem-end}
 use Rattle.versions.proofs.table.contains.Statement.{statement}
 use Rattle.versions.proofs.table.contains.Tie as tie
-use Rattle.versions.proofs.table.contains.Reads as reads
-use Rattle.versions.proofs.table.contains.Lts as lts
 
 abbrev Inv-loop : tie.InvT-loop
-Inv-loop list version i₀ i = ?
+Inv-loop list version i₀ i = (i ≤ length list) × (elem version list ≡ elem version (drop i list))
 
 abbrev μ-loop : tie.MeasureT-loop
-μ-loop list version i₀ i = ?
+μ-loop list version i₀ i = length list - i
 
--- src/table.rt:39:5
 loop-holds : tie.Need-loop-holds Inv-loop μ-loop
-loop-holds c = ?
+loop-holds c = (omega arith, refl)
 
--- src/table.rt:40:12
 mul-if1 : tie.Need-mul-if1 Inv-loop μ-loop
-mul-if1 c = ?
+mul-if1 c = search needs
 
--- src/table.rt:40:12
 shared-slice-read-if1 : tie.Need-shared-slice-read-if1 Inv-loop μ-loop
-shared-slice-read-if1 c = ?
+shared-slice-read-if1 c = omega arith
 
--- src/table.rt:41:13
 returns : tie.Need-returns Inv-loop μ-loop
-returns c = ?
+returns c =
+    sym
+    (c .before .before .before .loop .inv .1 ∙
+    elem-here _ _ _ (c .before .before .loop-test .taken) (c .if1 .taken))
 
--- src/table.rt:43:9
 add-i : tie.Need-add-i Inv-loop μ-loop
-add-i c = ?
+add-i c = omega arith
 
--- src/table.rt:39:5
 loop-less : tie.Need-loop-less Inv-loop μ-loop
-loop-less c = ?
+loop-less c = omega arith
 
--- src/table.rt:39:5
 loop-again : tie.Need-loop-again Inv-loop μ-loop
-loop-again c = ?
+loop-again c = (
+  omega arith,
+  c .before .before .before .loop .inv .1 ∙
+      elem-next _ _ _ (c .before .before .loop-test .taken) (c .if1 .left),
+)
 
--- src/table.rt:35:1
 returns-2 : tie.Need-returns-2 Inv-loop μ-loop
-returns-2 c = ?
+returns-2 c = sym (c .before .loop .inv .1 ∙ elem-end _ _ _ (c .loop-test .left))
 
 pub contains-spec : {M : Type 1} → statement M
 contains-spec =

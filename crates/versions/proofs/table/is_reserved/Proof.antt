@@ -1,23 +1,26 @@
+-- `is_reserved` meets its contract: each return is a test of `reserved`, in its order.
+use borrow.Author.Tests.{eq-eqb, ne-eqb}
+use Rattle.versions.specs.Version.{reserved}
 use Rattle.versions.proofs.table.is_reserved.Statement.{statement}
 use Rattle.versions.proofs.table.is_reserved.Tie as tie
-use Rattle.versions.proofs.table.is_reserved.Reads as reads
-use Rattle.versions.proofs.table.is_reserved.Lts as lts
 
--- src/table.rt:13:9
 returns : tie.Need-returns
-returns c = ?
+unfolding reserved
+returns c = rw (ne-eqb _ _ (c .if1 .taken))
 
--- src/table.rt:16:9
 returns-2 : tie.Need-returns-2
-returns-2 c = ?
+unfolding reserved
+returns-2 c = rw (eq-eqb _ _ (c .before .if1 .left), ne-eqb _ _ (c .if2 .taken))
 
--- src/table.rt:19:9
 returns-3 : tie.Need-returns-3
-returns-3 c = ?
+unfolding reserved
+returns-3 c =
+    rw (eq-eqb _ _ (c .before .before .if1 .left), eq-eqb _ _ (c .before .if2 .left), ne-eqb _ _ (c .if3 .taken))
 
--- src/table.rt:9:1
 returns-4 : tie.Need-returns-4
-returns-4 c = ?
+unfolding reserved
+returns-4 c =
+    rw (eq-eqb _ _ (c .before .before .if1 .left), eq-eqb _ _ (c .before .if2 .left), eq-eqb _ _ (c .if3 .left))
 
 pub is-reserved-spec : {M : Type 1} → statement M
 is-reserved-spec = tie.close (tie.spec returns returns-2 returns-3 returns-4)

@@ -1,0 +1,106 @@
+-- A walk over a list, entry by entry: at each place i the rest `drop i xs` answers for the whole. Each definition
+-- of specs/ over a list is read here at such a rest: what its first entry decides, what it leaves, and the end.
+use Prim.Native.Nat.{ℕ, _+_, _-_, _<_, _≤_}
+use mathlib.Core.Bool.{Bool, true, false, not}
+use mathlib.Core.List.{List, [], _∷_}
+use mathlib.Core.Option.{Option.none, Option.some}
+use mathlib.Core.Path.{_≡_, refl, ap}
+use native.Mathlib.Nat.{le-refl}
+use native.Mathlib.Numerals.{add-one}
+use lib.Dec.{eqb}
+use lib.ListN.{length, take, drop, getD, length-drop, drop-of-length-le}
+use lib.Seq.{drop-cons, take-all}
+use borrow.Author.Tests.{eq-eqb, ne-eqb}
+use Rattle.versions.specs.Choice.{preferred}
+use Rattle.versions.specs.Pairs.{fromOf, toOf, pairKeepsRule, eachPairKeepsRule, paired}
+use Rattle.versions.specs.Table.{elem, entriesKeepRule}
+use Rattle.versions.specs.Version.{usable}
+
+-- The rest at a place is the entry there and the rest after it
+pub drop-next : {A : Type 0} (xs : List A) (i : ℕ) (d : A) → i < length xs → drop i xs ≡ getD xs i d ∷ drop (i + 1) xs
+drop-next xs i d h = rw (add-one, drop-cons xs i d)
+
+-- A part from a place to the end is the rest there
+pub part-rest : {A : Type 0} (xs : List A) (i : ℕ) → take (length xs - i) (drop i xs) ≡ drop i xs
+part-rest xs i = take-all (length xs - i) (drop i xs) (rw (length-drop i xs) (le-refl (length xs - i)))
+
+-- `elem`, version v
+module _ (v : ℕ) (xs : List ℕ) (i : ℕ) where
+  pub elem-here : i < length xs → getD xs i 0 ≡ v → elem v (drop i xs) ≡ true
+  unfolding elem
+  elem-here h e = rw (drop-next xs i 0 h, eq-eqb _ _ e)
+
+  pub elem-next : i < length xs → (getD xs i 0 ≡ v → ⊥) → elem v (drop i xs) ≡ elem v (drop (i + 1) xs)
+  unfolding elem
+  elem-next h e = rw (drop-next xs i 0 h, ne-eqb _ _ e)
+
+  pub elem-end : length xs ≤ i → elem v (drop i xs) ≡ false
+  unfolding elem
+  elem-end h = rw (drop-of-length-le xs h)
+
+  pub elem-part : elem v (take (length xs - i) (drop i xs)) ≡ elem v (drop i xs)
+  elem-part = ap (elem v) (part-rest xs i)
+
+-- `entriesKeepRule`
+module _ (xs : List ℕ) (i : ℕ) where
+  pub entries-unusable : i < length xs → usable (getD xs i 0) ≡ false → entriesKeepRule (drop i xs) ≡ false
+  unfolding entriesKeepRule
+  entries-unusable h e = rw (drop-next xs i 0 h, e)
+
+  pub entries-twice : i < length xs → usable (getD xs i 0) ≡ true → elem (getD xs i 0) (drop (i + 1) xs) ≡ true → entriesKeepRule (drop i xs) ≡ false
+  unfolding entriesKeepRule
+  entries-twice h u e = rw (drop-next xs i 0 h, u, e)
+
+  pub entries-next : i < length xs → usable (getD xs i 0) ≡ true → elem (getD xs i 0) (drop (i + 1) xs) ≡ false → entriesKeepRule (drop i xs) ≡ entriesKeepRule (drop (i + 1) xs)
+  unfolding entriesKeepRule
+  entries-next h u e = rw (drop-next xs i 0 h, u, e)
+
+  pub entries-end : length xs ≤ i → entriesKeepRule (drop i xs) ≡ true
+  unfolding entriesKeepRule
+  entries-end h = rw (drop-of-length-le xs h)
+
+-- `eachPairKeepsRule`
+module _ (ps : List (List ℕ)) (i : ℕ) where
+  pub pairs-broken : i < length ps → pairKeepsRule (getD ps i []) ≡ false → eachPairKeepsRule (drop i ps) ≡ false
+  unfolding eachPairKeepsRule
+  pairs-broken h e = rw (drop-next ps i [] h, e)
+
+  pub pairs-next : i < length ps → pairKeepsRule (getD ps i []) ≡ true → eachPairKeepsRule (drop i ps) ≡ eachPairKeepsRule (drop (i + 1) ps)
+  unfolding eachPairKeepsRule
+  pairs-next h e = rw (drop-next ps i [] h, e)
+
+  pub pairs-end : length ps ≤ i → eachPairKeepsRule (drop i ps) ≡ true
+  unfolding eachPairKeepsRule
+  pairs-end h = rw (drop-of-length-le ps h)
+
+-- `paired`, from a to b
+module _ (a b : ℕ) (ps : List (List ℕ)) (i : ℕ) where
+  pub paired-here : i < length ps → fromOf (getD ps i []) ≡ a → toOf (getD ps i []) ≡ b → paired (drop i ps) a b ≡ true
+  unfolding paired
+  paired-here h e f = rw (drop-next ps i [] h, eq-eqb _ _ e, eq-eqb _ _ f)
+
+  pub paired-not-from : i < length ps → (fromOf (getD ps i []) ≡ a → ⊥) → paired (drop i ps) a b ≡ paired (drop (i + 1) ps) a b
+  unfolding paired
+  paired-not-from h e = rw (drop-next ps i [] h, ne-eqb _ _ e)
+
+  pub paired-not-to : i < length ps → fromOf (getD ps i []) ≡ a → (toOf (getD ps i []) ≡ b → ⊥) → paired (drop i ps) a b ≡ paired (drop (i + 1) ps) a b
+  unfolding paired
+  paired-not-to h e f = rw (drop-next ps i [] h, eq-eqb _ _ e, ne-eqb _ _ f)
+
+  pub paired-end : length ps ≤ i → paired (drop i ps) a b ≡ false
+  unfolding paired
+  paired-end h = rw (drop-of-length-le ps h)
+
+-- `preferred`, from a list
+module _ (list table : List ℕ) (i : ℕ) where
+  pub preferred-here : i < length table → elem (getD table i 0) list ≡ true → preferred (drop i table) list ≡ some (getD table i 0)
+  unfolding preferred
+  preferred-here h e = rw (drop-next table i 0 h, e)
+
+  pub preferred-next : i < length table → elem (getD table i 0) list ≡ false → preferred (drop i table) list ≡ preferred (drop (i + 1) table) list
+  unfolding preferred
+  preferred-next h e = rw (drop-next table i 0 h, e)
+
+  pub preferred-end : length table ≤ i → preferred (drop i table) list ≡ none
+  unfolding preferred
+  preferred-end h = rw (drop-of-length-le table h)
