@@ -1,5 +1,5 @@
 -- `contains_in_bytes`: the entries from the place on answer for the whole list.
-use Prim.Native.Nat.{_+_, _*_, _-_, _/_, _≤_, _<_}
+use Prim.Native.Nat.{_+_, _*_, _-_, _/_, _≤_}
 use mathlib.Core.Path.{_≡_, refl, sym, _∙_}
 use native.Mathlib.Omega.{arith}
 use lib.ListN.{length, drop}

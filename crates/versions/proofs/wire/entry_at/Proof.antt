@@ -1,5 +1,4 @@
 -- `entry_at`: the number at a place below the count is the entry there, and there is none at the count or past it.
-use Prim.Native.Nat.{_+_, _*_, _≤_, _<_}
 use mathlib.Core.Path.{sym, ap, _∙_}
 use mathlib.Core.Option.{Option.some}
 use native.Mathlib.Omega.{arith}
