@@ -1,13 +1,12 @@
 -- A walk over a list, entry by entry: at each place i the rest `drop i xs` answers for the whole. Each definition
 -- of specs/ over a list is read here at such a rest: what its first entry decides, what it leaves, and the end.
 use Prim.Native.Nat.{ℕ, _+_, _-_, _<_, _≤_}
-use mathlib.Core.Bool.{Bool, true, false, not}
+use mathlib.Core.Bool.{true, false}
 use mathlib.Core.List.{List, [], _∷_}
 use mathlib.Core.Option.{Option.none, Option.some}
-use mathlib.Core.Path.{_≡_, refl, ap}
+use mathlib.Core.Path.{_≡_, ap}
 use native.Mathlib.Nat.{le-refl}
 use native.Mathlib.Numerals.{add-one}
-use lib.Dec.{eqb}
 use lib.ListN.{length, take, drop, getD, length-drop, drop-of-length-le}
 use lib.Seq.{drop-cons, take-all}
 use borrow.Author.Tests.{eq-eqb, ne-eqb}
@@ -43,21 +42,21 @@ module _ (v : ℕ) (xs : List ℕ) (i : ℕ) where
 
 -- `entriesKeepRule`
 module _ (xs : List ℕ) (i : ℕ) where
-  pub entries-unusable : i < length xs → usable (getD xs i 0) ≡ false → entriesKeepRule (drop i xs) ≡ false
+  pub table-unusable : i < length xs → usable (getD xs i 0) ≡ false → entriesKeepRule (drop i xs) ≡ false
   unfolding entriesKeepRule
-  entries-unusable h e = rw (drop-next xs i 0 h, e)
+  table-unusable h e = rw (drop-next xs i 0 h, e)
 
-  pub entries-twice : i < length xs → usable (getD xs i 0) ≡ true → elem (getD xs i 0) (drop (i + 1) xs) ≡ true → entriesKeepRule (drop i xs) ≡ false
+  pub table-twice : i < length xs → usable (getD xs i 0) ≡ true → elem (getD xs i 0) (drop (i + 1) xs) ≡ true → entriesKeepRule (drop i xs) ≡ false
   unfolding entriesKeepRule
-  entries-twice h u e = rw (drop-next xs i 0 h, u, e)
+  table-twice h u e = rw (drop-next xs i 0 h, u, e)
 
-  pub entries-next : i < length xs → usable (getD xs i 0) ≡ true → elem (getD xs i 0) (drop (i + 1) xs) ≡ false → entriesKeepRule (drop i xs) ≡ entriesKeepRule (drop (i + 1) xs)
+  pub table-next : i < length xs → usable (getD xs i 0) ≡ true → elem (getD xs i 0) (drop (i + 1) xs) ≡ false → entriesKeepRule (drop i xs) ≡ entriesKeepRule (drop (i + 1) xs)
   unfolding entriesKeepRule
-  entries-next h u e = rw (drop-next xs i 0 h, u, e)
+  table-next h u e = rw (drop-next xs i 0 h, u, e)
 
-  pub entries-end : length xs ≤ i → entriesKeepRule (drop i xs) ≡ true
+  pub table-end : length xs ≤ i → entriesKeepRule (drop i xs) ≡ true
   unfolding entriesKeepRule
-  entries-end h = rw (drop-of-length-le xs h)
+  table-end h = rw (drop-of-length-le xs h)
 
 -- `eachPairKeepsRule`
 module _ (ps : List (List ℕ)) (i : ℕ) where
