@@ -1,13 +1,54 @@
 // The choice of a version: the first entry of the table that occurs in the list.
 ghost use mathlib.Core.Path.{_≡_};
-ghost use Rattle.versions.specs.Choice.{choose, choiceReply};
-ghost use Rattle.versions.specs.Wire.{entries};
+ghost use Rattle.versions.specs.Choice.{choose, choiceReply, orNothingInCommon, preferred};
+ghost use Rattle.versions.specs.Wire.{entries, entryReply};
 use crate::Choice;
+use crate::Entry;
 use crate::MAX_LIST;
 use crate::table::contains;
 use crate::table::is_table;
 use crate::wire::contains_in_bytes;
 use refusals::Refusal;
+
+// The first entry of any table that occurs in the list, or nothing. It judges neither of them.
+pub fn prefer(table: &[u32], list: &[u32]) -> Entry
+    ensures { λ r. ⌜ entryReply r ≡ preferred (now (table .entry)) (now (list .entry)) ⌝ }
+{
+    let mut i = 0;
+    while i < table.len() {
+        let version = table[i];
+        if contains(list, version) {
+            return Entry::Version(version);
+        }
+        i += 1;
+    }
+    Entry::Nothing
+}
+
+// The same from a list as it lies on the wire.
+pub fn prefer_in_bytes(table: &[u32], bytes: &[u8]) -> Entry
+    ensures { λ r. ⌜ entryReply r ≡ preferred (now (table .entry)) (entries (now (bytes .entry))) ⌝ }
+{
+    let mut i = 0;
+    while i < table.len() {
+        let version = table[i];
+        if contains_in_bytes(bytes, version) {
+            return Entry::Version(version);
+        }
+        i += 1;
+    }
+    Entry::Nothing
+}
+
+// What was found, as a choice: 42 where it is nothing.
+fn choice_of(found: Entry) -> Choice
+    ensures { λ r. ⌜ choiceReply r ≡ orNothingInCommon (entryReply found) ⌝ }
+{
+    match found {
+        Entry::Version(version) => Choice::Version(version),
+        Entry::Nothing => Choice::Refused(Refusal::NOTHING_IN_COMMON),
+    }
+}
 
 // The choice from a list. Refusals, in order: 40 (over MAX_LIST entries), 41 (the table breaks its rule),
 // 42 (nothing of the table is in the list).
@@ -20,15 +61,7 @@ pub fn choose_from(table: &[u32], list: &[u32]) -> Choice
     if !is_table(table) {
         return Choice::Refused(Refusal::BAD_TABLE);
     }
-    let mut i = 0;
-    while i < table.len() {
-        let version = table[i];
-        if contains(list, version) {
-            return Choice::Version(version);
-        }
-        i += 1;
-    }
-    Choice::Refused(Refusal::NOTHING_IN_COMMON)
+    choice_of(prefer(table, list))
 }
 
 // The choice from a list as it lies on the wire. Entries are whole fours; 1 to 3 bytes left over are no
@@ -42,13 +75,5 @@ pub fn choose_from_bytes(table: &[u32], bytes: &[u8]) -> Choice
     if !is_table(table) {
         return Choice::Refused(Refusal::BAD_TABLE);
     }
-    let mut i = 0;
-    while i < table.len() {
-        let version = table[i];
-        if contains_in_bytes(bytes, version) {
-            return Choice::Version(version);
-        }
-        i += 1;
-    }
-    Choice::Refused(Refusal::NOTHING_IN_COMMON)
+    choice_of(prefer_in_bytes(table, bytes))
 }
