@@ -31,9 +31,13 @@ ownFor a v = members (wordOf (tableOf a) (a .rows) v) (tableOf a)
 unfoldable pub ownOf : Attempt → List ℕ
 ownOf a = ownFor a (a .attempted)
 
+-- A list as an array and a count
+abbrev pub listInPlaces : List ℕ → OwnList
+listInPlaces vs = record { versions = padded maxTable vs; count = length vs }
+
 -- The own list as an array and a count
 abbrev pub ownListOf : Attempt → OwnList
-ownListOf a = record { versions = padded maxTable (ownOf a); count = length (ownOf a) }
+ownListOf a = listInPlaces (ownOf a)
 
 abbrev pub isOpen : End → Bool
 isOpen Open = true

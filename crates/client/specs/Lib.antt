@@ -5,3 +5,4 @@ pub mod Limits
 pub mod OwnList
 pub mod Start
 pub mod Step
+pub mod Words

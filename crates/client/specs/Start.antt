@@ -27,6 +27,9 @@ pub record Input : Type 0 where
   pub destination : List ℕ
   pub source : List ℕ
 
+abbrev pub inputOf : List ℕ → List (List ℕ) → ℕ → List ℕ → List ℕ → Input
+inputOf t ps v d s = record { table = t; pairs = ps; original = v; destination = d; source = s }
+
 abbrev pub startRules : Input → List Rule
 startRules x =
     (41 when not (tableKeepsRule (x .table))) ∷
@@ -95,5 +98,8 @@ shownStart s = record { attempt = s .attempt; reply = startReply (s .answer) }
 abbrev pub refusedStart : ℕ → Start
 refusedStart n = record { attempt = blank; reply = refuse Reading n }
 
+abbrev pub openedStart : Input → Start
+openedStart x = record { attempt = opened x; reply = answered nothing }
+
 unfoldable pub startOf : Input → Start
-startOf x = lowest refusedStart (startRules x) (record { attempt = opened x; reply = answered nothing })
+startOf x = lowest refusedStart (startRules x) (openedStart x)

@@ -1,4 +1,8 @@
 // The client's attempt (RFC 9368 sections 2.1 and 4): from its first version to its end.
+pub mod own; // the own list of an attempt
+pub mod starting; // the start
+mod words; // the words that the record keeps own lists as
+
 use information::Presence;
 use refusals::Refusal;
 use versions::MAX_TABLE;

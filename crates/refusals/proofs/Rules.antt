@@ -3,11 +3,17 @@ use Prim.Native.Nat.{ℕ}
 use mathlib.Core.Bool.{Bool, true, false, not, _&&_, and-assoc, true≢false, false≢true}
 use mathlib.Core.List.{List, [], _∷_, _++_}
 use mathlib.Core.Path.{_≡_, refl, sym, _∙_, ap}
+use native.Mathlib.Omega.{arith}
+use Rattle.refusals.specs.Reply.{Reply, Reply.refused, Reply.answered, refuse}
+use Rattle.refusals.specs.declared.Call.{Call}
 use Rattle.refusals.specs.Rule.{Rule, Rule._when_, lowest, clear}
 
 pub both-true : (a b : Bool) → (a && b) ≡ true → (a ≡ true) × (b ≡ true)
 both-true true b e = (refl, e)
 both-true false b e = absurd (false≢true e)
+
+refused-not-answered : {A : Type 0} (n : ℕ) (call : Call) (a : A) → refuse call n ≡ answered a → ⊥
+refused-not-answered n call a e = let z : _≡_ {A = ℕ} 0 1 = cc in omega arith
 
 pub clear-append : (rs ss : List Rule) → clear (rs ++ ss) ≡ (clear rs && clear ss)
 clear-append [] ss = refl
@@ -32,3 +38,24 @@ module _ {B : Type 0} (refusal : ℕ → B) (other : B) where
   lowest-any P each last [] = last
   lowest-any P each last ((n when true) ∷ rs) = each n
   lowest-any P each last ((n when false) ∷ rs) = lowest-any P each last rs
+
+-- The rules of two lists: those of the first, then those of the second
+pub lowest-append : {B : Type 0} (refusal : ℕ → B) (other : B) (rs ss : List Rule) →
+    lowest refusal (rs ++ ss) other ≡ lowest refusal rs (lowest refusal ss other)
+lowest-append refusal other [] ss = refl
+lowest-append refusal other ((n when true) ∷ rs) ss = refl
+lowest-append refusal other ((n when false) ∷ rs) ss = lowest-append refusal other rs ss
+
+-- Rules that refuse with a number make of it whatever is made of a refusal
+pub lowest-number : {A B : Type 0} (call : Call) (a : A) (n : ℕ) (refusal : ℕ → B) (other : B) (rs : List Rule) →
+    refuse call n ≡ lowest (refuse call) rs (answered a) → refusal n ≡ lowest refusal rs other
+lowest-number call a n refusal other [] e = absurd (refused-not-answered n call a e)
+lowest-number call a n refusal other ((m when true) ∷ rs) e = let z : n ≡ m = cc in ap refusal z
+lowest-number call a n refusal other ((m when false) ∷ rs) e = lowest-number call a n refusal other rs e
+
+-- Rules that let an answer through are clear
+pub answered-clear : {A : Type 0} (call : Call) (a b : A) (rs : List Rule) →
+    answered b ≡ lowest (refuse call) rs (answered a) → clear rs ≡ true
+answered-clear call a b [] e = refl
+answered-clear call a b ((m when true) ∷ rs) e = absurd (refused-not-answered m call b (sym e))
+answered-clear call a b ((m when false) ∷ rs) e = answered-clear call a b rs e

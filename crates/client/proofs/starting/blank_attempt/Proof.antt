@@ -1,0 +1,11 @@
+use Rattle.client.proofs.starting.blank_attempt.Statement.{statement}
+use Rattle.client.proofs.starting.blank_attempt.Tie as tie
+use Rattle.client.proofs.starting.blank_attempt.Reads as reads
+use Rattle.client.proofs.starting.blank_attempt.Lts as lts
+
+-- src/starting.rt:53:1
+returns : tie.Need-returns
+returns c = ?
+
+pub blank-attempt-spec : {M : Type 1} → statement M
+blank-attempt-spec = tie.close (tie.spec returns)
