@@ -1,6 +1,7 @@
 // The client's attempt (RFC 9368 sections 2.1 and 4): from its first version to its end.
 pub mod own; // the own list of an attempt
 pub mod starting; // the start
+pub mod stepping; // the step by value
 mod words; // the words that the record keeps own lists as
 
 use information::Presence;
