@@ -33,8 +33,8 @@ put-both chosen available buffer first rest room f r =
     let behind : drop versionBytes first ≡ drop versionBytes buffer = ap (drop versionBytes) one in
     let fits : versionBytes * length available ≤ length (drop versionBytes buffer) = rw (length-drop versionBytes buffer) (omega arith) in
     let others : rest ≡ listBytes available ++ drop (informationLength available) buffer =
-        r ∙ ap (afterPut available) (part-rest first versionBytes ∙ behind) ∙ afterPut-room available (drop versionBytes buffer) fits
-        ∙ ap (λ (l : List ℕ). listBytes available ++ l) (drop-drop (versionBytes * length available) versionBytes buffer) in
+    r ∙ ap (afterPut available) (part-rest first versionBytes ∙ behind) ∙ afterPut-room available (drop versionBytes buffer) fits
+    ∙ ap (λ (l : List ℕ). listBytes available ++ l) (drop-drop (versionBytes * length available) versionBytes buffer) in
     let front : take versionBytes first ≡ bytesOf chosen = ap (take versionBytes) one in
     rw (front, rest-end first versionBytes, others, append-nil (listBytes available ++ drop (informationLength available) buffer))
 

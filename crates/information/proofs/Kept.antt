@@ -55,13 +55,15 @@ module _ (sender : Sender) (bytes : List ℕ) where
   read-kept found e =
       let rules = formRules bytes ++ senderRules sender (chosenOf bytes) (availableOf bytes) in
       let p = answer-none Reading rules (foundIn bytes) found e in
-      let none = p .0 in
-      (record {
-        least = ltb-false _ _ (none .0);
-        fours = eqb-true _ _ (not-false _ (none .1 .0));
-        most = ltb-false _ _ (none .1 .1 .0);
-        others = record { chosen-given = none .1 .1 .1 .0; none-zero = none .1 .1 .1 .1 .0; among = none .1 .1 .1 .1 .1 .0 }
-      }, p .1)
+      let none = p .0 in (
+        record {
+          least = ltb-false _ _ (none .0);
+          fours = eqb-true _ _ (not-false _ (none .1 .0));
+          most = ltb-false _ _ (none .1 .1 .0);
+          others = record { chosen-given = none .1 .1 .1 .0; none-zero = none .1 .1 .1 .1 .0; among = none .1 .1 .1 .1 .1 .0 };
+        },
+        p .1,
+      )
 
   pub read-answers : ReadKept sender bytes → readInformation sender bytes ≡ answered (foundIn bytes)
   unfolding readInformation
@@ -81,12 +83,14 @@ module _ (sender : Sender) (chosen : ℕ) (available : List ℕ) (room : ℕ) wh
   unfolding informationToWrite
   write-kept bytes e =
       let p = answer-none Writing (writeRules sender chosen available room) (informationBytes chosen available) bytes e in
-      let none = p .0 in
-      (record {
-        few = ltb-false _ _ (none .0);
-        others = record { chosen-given = none .1 .0; none-zero = none .1 .1 .0; among = none .1 .1 .1 .0 };
-        fits = ltb-false _ _ (none .1 .1 .1 .1 .0)
-      }, p .1)
+      let none = p .0 in (
+        record {
+          few = ltb-false _ _ (none .0);
+          others = record { chosen-given = none .1 .0; none-zero = none .1 .1 .0; among = none .1 .1 .1 .0 };
+          fits = ltb-false _ _ (none .1 .1 .1 .1 .0);
+        },
+        p .1,
+      )
 
   pub write-answers : WriteKept sender chosen available room
       → informationToWrite sender chosen available room ≡ answered (informationBytes chosen available)

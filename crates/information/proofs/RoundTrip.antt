@@ -48,13 +48,13 @@ written-read sender chosen available room bytes chosen-below below e =
       least = omega arith;
       fours = omega arith;
       most = omega arith;
-      others = rw (same-chosen, same-available) (written .0 .others)
+      others = rw (same-chosen, same-available) (written .0 .others);
     } in
     rw (← written .1) (record {
       found = foundIn (informationBytes chosen available);
       reads = read-answers sender (informationBytes chosen available) kept;
       same-chosen = same-chosen;
-      same-available = versions-found (informationBytes chosen available) ∙ same-available
+      same-available = versions-found (informationBytes chosen available) ∙ same-available;
     })
 
 -- (2) What is read is written again, into every buffer with room for it, and as the same bytes
@@ -70,7 +70,7 @@ read-written sender bytes found room below fits e =
     let again = write-answers sender (chosenOf bytes) (availableOf bytes) room (record {
       few = omega arith;
       others = kept .others;
-      fits = omega arith
+      fits = omega arith;
     }) in
     rw (← read .1, versions-found bytes) (again ∙ ap answered (bytes-again kept below))
 
@@ -87,7 +87,7 @@ equal-bytes sender other a b chosen available below-a below-b read-a read-b =
         let p = read-kept from bytes (read .found) (read .reads) in
         let c : chosenOf bytes ≡ chosen = ap (λ (f : Found). f .chosen) (p .1) ∙ read .same-chosen in
         let v : availableOf bytes ≡ available =
-            sym (versions-found bytes) ∙ ap (λ (f : Found). versionsIn bytes (f .available)) (p .1) ∙ read .same-available in
+        sym (versions-found bytes) ∙ ap (λ (f : Found). versionsIn bytes (f .available)) (p .1) ∙ read .same-available in
         rw (← c, ← v) (bytes-again (p .0) below)
 
 -- (4) What is written has at most 1,024 bytes

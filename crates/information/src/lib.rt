@@ -88,7 +88,12 @@ fn read_lacks_chosen(sender: Sender, chosen: u32, available: &[u8]) -> bool
 // MAX_AVAILABLE entries), 34 (the Chosen Version is 0), 35 (an Available Version is 0), 36 (from a client: the
 // Chosen Version is not among the Available Versions), 37 (the buffer is too short). A refusal leaves the buffer
 // as found; else its bytes past the count keep their values.
-pub fn write_information(sender: Sender, chosen: u32, available: &[u32], buffer: &mut [u8]) -> Written
+pub fn write_information(
+    sender: Sender,
+    chosen: u32,
+    available: &[u32],
+    buffer: &mut [u8],
+) -> Written
     ensures answer { λ r. ⌜ writtenReply r ≡ counted (informationToWrite sender chosen (now (available .entry)) (length (now (buffer .entry)))) ⌝ }
     ensures left { λ _. ⌜ now (buffer .exit) ≡ leaves (informationToWrite sender chosen (now (available .entry)) (length (now (buffer .entry)))) (now (buffer .entry)) ⌝ }
 {

@@ -1,6 +1,8 @@
 -- `read_information`: the tests in the order of the code are the rules in the order of their numbers.
-use mathlib.Core.List.{_∷_}
-use mathlib.Core.Path.{_≡_}
+use mathlib.Core.Bool.{not, _&&_}
+use mathlib.Core.List.{[], _∷_}
+use mathlib.Core.Path.{_≡_, sym}
+use lib.Dec.{eqb}
 use borrow.Author.Tests.{lt-ltb, le-ltb, eq-eqb, ne-eqb}
 use denote.Ref.{now}
 use Rattle.refusals.specs.Reply.{Reply.answered}
@@ -8,7 +10,7 @@ use Rattle.refusals.specs.Rule.{Rule._when_, judged}
 use Rattle.refusals.specs.declared.Call.the-variants.{Reading}
 use Rattle.versions.specs.Table.{elem}
 use Rattle.versions.proofs.Lists.{part-rest}
-use Rattle.information.specs.Information.{readInformation, chosenOf, availableOf, senderRules, foundIn}
+use Rattle.information.specs.Information.{readInformation, isClient, chosenOf, availableOf, senderRules, foundIn}
 use borrow.Author.Needs.{needs}
 use Rattle.information.proofs.read_information.Statement.{statement}
 use Rattle.information.proofs.read_information.Tie as tie
@@ -23,7 +25,12 @@ returns-2 c = rw (le-ltb _ _ (c .before .if1 .left), ne-eqb _ _ (c .if2 .taken))
 
 returns-3 : tie.Need-returns-3
 unfolding readInformation
-returns-3 c = rw (le-ltb _ _ (c .before .before .if1 .left), eq-eqb _ _ (c .before .if2 .left), lt-ltb _ _ (c .if3 .taken))
+returns-3 c =
+    rw (
+      le-ltb _ _ (c .before .before .if1 .left),
+      eq-eqb _ _ (c .before .if2 .left),
+      lt-ltb _ _ (c .if3 .taken),
+    )
 
 shared-slice-read-big-endian : tie.Need-shared-slice-read-big-endian
 shared-slice-read-big-endian c = search needs
@@ -40,28 +47,29 @@ shared-slice-read-big-endian-4 c = search needs
 big-endian-requires : tie.Need-big-endian-requires
 big-endian-requires c κs = search needs
 
-returns-4 : tie.Need-returns-4
-unfolding readInformation
-returns-4 c = rw (le-ltb _ _ (c .before .before .before .before .before .before .before .before .if1 .left), eq-eqb _ _ (c .before .before .before .before .before .before .before .if2 .left), le-ltb _ _ (c .before .before .before .before .before .before .if3 .left), ← c .before .big-endian .ensures, eq-eqb _ _ (c .if4 .taken))
-
--- None of 31 to 34 applies, so the other rules judge
-after-34 :
-    (c : tie.Else4) →
-    let args = c .before .before .before .before .before .before .before .before .before .before .args in
+-- None of 31 to 33 applies, and the Chosen Version was read
+after-33 :
+    (c : tie.After-big-endian) →
+    let args = c .before .before .before .before .before .before .before .before .before .args in
     let bytes = now (args .bytes) in
     readInformation (args .sender) bytes ≡
     judged Reading
-    ((35 when elem 0 (availableOf bytes)) ∷ senderRules (args .sender) (chosenOf bytes) (availableOf bytes))
+    ((34 when eqb (c .big-endian .result) 0) ∷
+    (35 when elem 0 (availableOf bytes)) ∷
+    senderRules (args .sender) (chosenOf bytes) (availableOf bytes))
     (answered (foundIn bytes))
 unfolding readInformation
-after-34 c =
+after-33 c =
+    let form = c .before .before .before .before .before in
     rw (
-      le-ltb _ _ (c .before .before .before .before .before .before .before .before .if1 .left),
-      eq-eqb _ _ (c .before .before .before .before .before .before .before .if2 .left),
-      le-ltb _ _ (c .before .before .before .before .before .before .if3 .left),
-      ← c .before .big-endian .ensures,
-      ne-eqb _ _ (c .if4 .left),
+      le-ltb _ _ (form .before .before .if1 .left),
+      eq-eqb _ _ (form .before .if2 .left),
+      le-ltb _ _ (form .if3 .left),
+      ← c .big-endian .ensures,
     )
+
+returns-4 : tie.Need-returns-4
+returns-4 c = rw (after-33 (c .before), eq-eqb _ _ (c .if4 .taken))
 
 sub-contains-in-bytes : tie.Need-sub-contains-in-bytes
 sub-contains-in-bytes c = search needs
@@ -75,28 +83,19 @@ part-contains-in-bytes-end c = search needs
 contains-in-bytes-requires : tie.Need-contains-in-bytes-requires
 contains-in-bytes-requires c κs = search needs
 
-returns-5 : tie.Need-returns-5
-returns-5 c = rw (
-      after-34 (c .before .before .before),
-      ← part-rest (now (c .before .before .before .before .before .before .before .before .before .before .before .before .before .args .bytes)) 4,
-      ← c .before .contains-in-bytes .ensures,
-      c .if5 .taken,
-    )
+-- Whether an Available Version is 0, as `contains_in_bytes` answers
+zero-held :
+    (c : tie.After-contains-in-bytes) →
+    let bytes = now (c .before .before .before .before .before .before .before .before .before .before .before .before .args .bytes) in
+    elem 0 (availableOf bytes) ≡ c .contains-in-bytes .result
+zero-held c =
+    let bytes = now (c .before .before .before .before .before .before .before .before .before .before .before .before .args .bytes) in
+    rw (← part-rest bytes 4) (sym (c .contains-in-bytes .ensures))
 
--- Nor does 35, so the sender's rule judges
-after-35 :
-    (c : tie.Else5) →
-    let args = c .before .before .before .before .before .before .before .before .before .before .before .before .before .args in
-    let bytes = now (args .bytes) in
-    readInformation (args .sender) bytes ≡
-    judged Reading (senderRules (args .sender) (chosenOf bytes) (availableOf bytes)) (answered (foundIn bytes))
-after-35 c =
-    rw (
-      after-34 (c .before .before .before),
-      ← part-rest (now (c .before .before .before .before .before .before .before .before .before .before .before .before .before .args .bytes)) 4,
-      ← c .before .contains-in-bytes .ensures,
-      c .if5 .left,
-    )
+returns-5 : tie.Need-returns-5
+returns-5 c =
+    let chosen = c .before .before .before in
+    rw (after-33 (chosen .before), ne-eqb _ _ (chosen .if4 .left), zero-held (c .before), c .if5 .taken)
 
 sub-read-lacks-chosen : tie.Need-sub-read-lacks-chosen
 sub-read-lacks-chosen c = search needs
@@ -110,22 +109,43 @@ part-read-lacks-chosen-end c = search needs
 read-lacks-chosen-requires : tie.Need-read-lacks-chosen-requires
 read-lacks-chosen-requires c κs = search needs
 
-returns-6 : tie.Need-returns-6
-returns-6 c = rw (
-      after-35 (c .before .before .before),
-      ← part-rest (now (c .before .before .before .before .before .before .before .before .before .before .before .before .before .before .before .before .args .bytes)) 4,
-      ← c .before .before .before .before .before .before .before .big-endian .ensures,
-      ← c .before .read-lacks-chosen .ensures,
-      c .if6 .taken,
+-- The sender's rule, as `read_lacks_chosen` answers
+chosen-lacking :
+    (c : tie.After-read-lacks-chosen) →
+    let args = c .before .before .before .before .before .before .before .before .before .before .before .before .before .before .before .args in
+    let bytes = now (args .bytes) in
+    (isClient (args .sender) && not (elem (chosenOf bytes) (availableOf bytes))) ≡ c .read-lacks-chosen .result
+chosen-lacking c =
+    let chosen = c .before .before .before .before .before .before in
+    let bytes = now (chosen .before .before .before .before .before .before .before .before .before .args .bytes) in
+    rw (← part-rest bytes 4, ← chosen .big-endian .ensures) (sym (c .read-lacks-chosen .ensures))
+
+-- None of 31 to 35 applies, so the sender's rule judges
+after-35 :
+    (c : tie.After-read-lacks-chosen) →
+    let args = c .before .before .before .before .before .before .before .before .before .before .before .before .before .before .before .args in
+    readInformation (args .sender) (now (args .bytes)) ≡
+    judged Reading ((36 when c .read-lacks-chosen .result) ∷ []) (answered (foundIn (now (args .bytes))))
+after-35 c =
+    let zero = c .before .before in
+    let chosen = zero .before .before .before in
+    rw (
+      after-33 (chosen .before),
+      ne-eqb _ _ (chosen .if4 .left),
+      zero-held (zero .before),
+      zero .if5 .left,
+      chosen-lacking c,
     )
 
+returns-6 : tie.Need-returns-6
+returns-6 c = rw (after-35 (c .before), c .if6 .taken)
+
 returns-7 : tie.Need-returns-7
-returns-7 c = rw (
-      after-35 (c .before .before .before),
-      ← part-rest (now (c .before .before .before .before .before .before .before .before .before .before .before .before .before .before .before .before .args .bytes)) 4,
-      ← c .before .before .before .before .before .before .before .big-endian .ensures,
-      ← c .before .read-lacks-chosen .ensures,
+returns-7 c =
+    rw (
+      after-35 (c .before),
       c .if6 .left,
+      ← c .before .before .before .before .before .before .before .big-endian .ensures,
     )
 
 pub read-information-spec : {M : Type 1} → statement M
