@@ -1,6 +1,6 @@
 -- Version Negotiation packets as the header reader answers them: which datagrams they are, where their parts lie,
 -- and how long their list is. A long form ignores the told length.
-use Prim.Native.Nat.{ℕ, _+_, _*_, _%_, _/_, _<_, _≤_}
+use Prim.Native.Nat.{ℕ, _+_, _*_, _%_, _<_, _≤_}
 use mathlib.Core.Bool.{Bool, true, false, cond, not, _&&_, _||_, true≢false}
 use mathlib.Core.List.{List}
 use mathlib.Core.Path.{_≡_, refl, sym, _∙_, ap}
@@ -16,9 +16,10 @@ use Rattle.versions.specs.Limits.{maxList}
 use Rattle.versions.specs.Wire.{versionBytes}
 use Rattle.versions.specs.declared.Span.{Span}
 use Rattle.versions.proofs.Entries.{length-entries}
-use Rattle.invariants.specs.Header.{Form, Form.long, Form.short, Form.versionNegotiation, isLong, versionOf, destinationLength, sourceStart, restStart, restOf, listed, isVersionNegotiation, longTruncated, shortTruncated, truncated, notWhole, headerRules, span, longFormOf, formOf, readHeader, headerReply, isReadableNegotiation}
+use Rattle.invariants.specs.Header.{Form, Form.long, Form.short, Form.versionNegotiation, isLong, versionOf, destinationLength, sourceStart, restStart, restOf, listed, isVersionNegotiation, longTruncated, shortTruncated, truncated, notWhole, headerRules, span, formOf, readHeader, headerReply, isReadableNegotiation}
 use Rattle.invariants.specs.Limits.{maxDatagram}
 use Rattle.invariants.specs.declared.Header.{Header}
+use Rattle.invariants.specs.declared.Header.the-variants.{VersionNegotiation}
 
 -- The reader answered a Version Negotiation packet
 abbrev pub negotiationIn : Reply Form → Bool
@@ -82,11 +83,11 @@ readable-known d e =
     let past = both-true (not (truncated d 0)) _ (over .1) in
     let list = both-true (not (isVersionNegotiation d && notWhole (restOf d))) _ (past .1) in
     let inside : longTruncated d ≡ false =
-        sym (ap (λ (b : Bool). cond b (longTruncated d) (shortTruncated d 0)) (form .0)) ∙
-        neither (eqb (length d) 0) _ (past .0) .1 in
+    sym (ap (λ (b : Bool). cond b (longTruncated d) (shortTruncated d 0)) (form .0)) ∙
+    neither (eqb (length d) 0) _ (past .0) .1 in
     let fours =
-        neither (eqb (length (restOf d)) 0) (not (eqb (length (restOf d) % versionBytes) 0))
-        (sym (ap (λ (b : Bool). not (b && notWhole (restOf d))) (both .1)) ∙ list .0) in
+    neither (eqb (length (restOf d)) 0) (not (eqb (length (restOf d) % versionBytes) 0))
+    (sym (ap (λ (b : Bool). not (b && notWhole (restOf d))) (both .1)) ∙ list .0) in
     let fits : length d ≤ maxDatagram = ltb-false _ _ (not-true _ (over .0)) in
     let within : restStart d ≤ length d = ltb-false _ _ inside in
     let bounded : length (restOf d) ≤ versionBytes * maxList = rw (length-drop (restStart d) d) (omega arith) in
@@ -112,10 +113,13 @@ pub record Answered (d : List ℕ) (destination source list : Span) : Type 0 whe
   pub source-is : source ≡ span (sourceStart d) (restStart d)
   pub list-is : list ≡ span (restStart d) (length d)
 
-module _ (d : List ℕ) (D S L : Span) where
-  pub answered-known : readHeader d 0 ≡ answered (versionNegotiation D S L) → Answered d D S L
-  answered-known e =
-      let readable : isReadableNegotiation d ≡ true = readable-is-read d ∙ ap negotiationIn e in
-      let known = readable-known d readable in
-      let same = sym e ∙ known .reads 0 in
-      record { readable = readable; known = known; destination-is = cc same; source-is = cc same; list-is = cc same }
+pub answered-known : (d : List ℕ) (D S L : Span) → readHeader d 0 ≡ answered (versionNegotiation D S L) → Answered d D S L
+answered-known d D S L e =
+    let readable : isReadableNegotiation d ≡ true = readable-is-read d ∙ ap negotiationIn e in
+    let known = readable-known d readable in
+    let same = sym e ∙ known .reads 0 in
+    record { readable = readable; known = known; destination-is = cc same; source-is = cc same; list-is = cc same }
+
+-- The same for an answer of `read_header`
+pub answered-by-reply : (d : List ℕ) (r : Header) (D S L : Span) → headerReply r ≡ readHeader d 0 → r ≡ VersionNegotiation D S L → Answered d D S L
+answered-by-reply d r D S L e is = answered-known d D S L (sym e ∙ ap headerReply is)

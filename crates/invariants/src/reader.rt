@@ -3,7 +3,7 @@ ghost use mathlib.Core.Path.{_≡_};
 ghost use mathlib.Core.Bool.{true, false};
 ghost use Prim.Native.Nat.{ℕ, _<_, _≤_};
 ghost use lib.ListN.{length};
-ghost use Rattle.invariants.specs.Header.{isLong, readHeader, headerReply};
+ghost use Rattle.invariants.specs.Header.{isLong, span, readHeader, headerReply};
 ghost use Rattle.invariants.specs.Limits.{maxDatagram};
 use crate::Header;
 use crate::MAX_CONNECTION_ID;
@@ -13,6 +13,12 @@ use crate::fields::source_length;
 use crate::fields::version_of;
 use refusals::Refusal;
 use versions::Span;
+
+fn part(start: usize, end: usize) -> Span
+    ensures { λ r. ⌜ r ≡ span start end ⌝ }
+{
+    Span { start, end }
+}
 
 // The long form of a datagram of 1 to MAX_DATAGRAM bytes, whatever the told length.
 fn read_long(datagram: &[u8]) -> Header
@@ -29,12 +35,17 @@ fn read_long(datagram: &[u8]) -> Header
     if length < rest_start {
         return Header::Refused(Refusal::TRUNCATED);
     }
-    let destination = Span { start: 6, end: destination_end };
-    let source = Span { start: source_start, end: rest_start };
-    let rest = Span { start: rest_start, end: length };
+    let destination = part(6, destination_end);
+    let source = part(source_start, rest_start);
+    let rest = part(rest_start, length);
     let version = version_of(datagram);
     if version != 0 {
-        return Header::Long { version, destination, source, rest };
+        return Header::Long {
+            version,
+            destination,
+            source,
+            rest,
+        };
     }
     if length == rest_start {
         return Header::Refused(Refusal::LIST_NOT_WHOLE);
@@ -42,7 +53,11 @@ fn read_long(datagram: &[u8]) -> Header
     if (length - rest_start) % 4 != 0 {
         return Header::Refused(Refusal::LIST_NOT_WHOLE);
     }
-    Header::VersionNegotiation { destination, source, list: rest }
+    Header::VersionNegotiation {
+        destination,
+        source,
+        list: rest,
+    }
 }
 
 // The short form of a datagram of 1 to MAX_DATAGRAM bytes.
@@ -59,8 +74,8 @@ fn read_short(datagram: &[u8], told: usize) -> Header
     if datagram.len() < destination_end {
         return Header::Refused(Refusal::TRUNCATED);
     }
-    let destination = Span { start: 1, end: destination_end };
-    let rest = Span { start: destination_end, end: datagram.len() };
+    let destination = part(1, destination_end);
+    let rest = part(destination_end, datagram.len());
     Header::Short { destination, rest }
 }
 
