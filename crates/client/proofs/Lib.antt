@@ -1,6 +1,9 @@
 pub mod Compared
 pub mod Demand3
+pub mod Negotiating
+pub mod Outcomes
 pub mod OwnLists
 pub mod Phases
+pub mod Reaching
 pub mod Steps
 pub mod Worked

@@ -1,10 +1,10 @@
 -- What a step does, along its code.
 use Prim.Native.Nat.{ℕ, _≤_, _<_, _/_}
-use mathlib.Core.Bool.{Bool, true, false, cond, not, _&&_, _||_}
+use mathlib.Core.Bool.{Bool, true, false, cond, not, _&&_, _||_, and-false}
 use mathlib.Core.List.{List, [], _∷_, _++_, append-nil, Option·toList}
 use mathlib.Core.Option.{Option, Option.none, Option.some}
 use mathlib.Core.Path.{_≡_, refl, sym, ap, _∙_}
-use borrow.Author.Tests.{leb-true, ne-eqb}
+use borrow.Author.Tests.{leb-true, le-leb, lt-leb, ne-eqb}
 use native.Mathlib.Omega.{arith}
 use lib.Dec.{eqb, leb}
 use lib.ListN.{length}
@@ -12,14 +12,15 @@ use Rattle.refusals.specs.Rule.{Rule, Rule._when_, lowest}
 use Rattle.refusals.proofs.Rules.{both-true}
 use Rattle.versions.specs.Choice.{preferred}
 use Rattle.versions.specs.Limits.{maxTable}
-use Rattle.client.specs.Limits.{maxID}
+use Rattle.client.specs.Limits.{maxID, notARecord}
 use Rattle.versions.specs.Table.{elem}
 use Rattle.versions.specs.Wire.{entries, versionBytes}
 use Rattle.versions.proofs.Entries.{length-entries}
 use Rattle.versions.proofs.Laws.{preferred-joined}
 use Rattle.client.specs.Attempt.{tableOf, ownOf, isOpen, put, ended}
-use Rattle.client.specs.Step.{After, unchanged, closed, after, Effect.notes, Effect.completes, picks, outcomeRules, missingRules, onProcessed, countsFit}
+use Rattle.client.specs.Step.{After, unchanged, closed, after, Effect.notes, Effect.completes, picks, outcomeRules, missingRules, onProcessed, stepOf, stepOfAny, countsFit}
 use Rattle.client.specs.declared.Attempt.{Attempt}
+use Rattle.client.specs.declared.Event.{Event}
 use Rattle.client.specs.declared.End.{End}
 use Rattle.client.specs.declared.End.the-variants.{Open, Completed}
 
@@ -33,6 +34,26 @@ counts-destination a h = leb-true _ _ (both-true (leb (a .«destination_len») m
 
 pub counts-source : (a : Attempt) → countsFit a ≡ true → a .«source_len» ≤ maxID
 counts-source a h = leb-true _ _ (both-true (leb (a .«destination_len») maxID) _ (both-true (leb (a .«table_len») maxTable) _ h .1) .1)
+
+pub counts-all : (a : Attempt) → a .«table_len» ≤ maxTable → a .«destination_len» ≤ maxID → a .«source_len» ≤ maxID → countsFit a ≡ true
+counts-all a t d s = rw (le-leb _ _ t, le-leb _ _ d, le-leb _ _ s)
+
+pub table-over : (a : Attempt) → maxTable < a .«table_len» → countsFit a ≡ false
+table-over a h = rw (lt-leb _ _ h)
+
+pub destination-over : (a : Attempt) → maxID < a .«destination_len» → countsFit a ≡ false
+destination-over a h = rw (lt-leb _ _ h) (and-false (leb (a .«table_len») maxTable))
+
+pub source-over : (a : Attempt) → maxID < a .«source_len» → countsFit a ≡ false
+source-over a h = rw (lt-leb _ _ h, and-false (leb (a .«destination_len») maxID)) (and-false (leb (a .«table_len») maxTable))
+
+pub any-refused : (a : Attempt) (e : Event) (bs : List ℕ) → countsFit a ≡ false → unchanged a notARecord ≡ stepOfAny a e bs
+unfolding stepOfAny
+any-refused a e bs h = rw h
+
+pub any-accepted : (a : Attempt) (e : Event) (bs : List ℕ) → countsFit a ≡ true → stepOf a e bs ≡ stepOfAny a e bs
+unfolding stepOfAny
+any-accepted a e bs h = rw h
 
 -- Whether a list on the wire has an entry
 

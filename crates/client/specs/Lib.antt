@@ -3,6 +3,7 @@ pub mod Demand
 pub mod Events
 pub mod Limits
 pub mod OwnList
+pub mod Parts
 pub mod Start
 pub mod Step
 pub mod Words

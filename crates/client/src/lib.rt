@@ -11,6 +11,9 @@ use versions::MAX_TABLE;
 // The longest connection ID of an attempt (RFC 9000 section 17.2).
 pub const MAX_ID: usize = 20;
 
+// The refusal of a host's record that no start handed back: a number outside document 01's table.
+pub const NOT_A_RECORD: Refusal = Refusal(255);
+
 // How an attempt stands.
 pub enum End {
     Open,

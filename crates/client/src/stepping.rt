@@ -1,5 +1,5 @@
 // The step of an attempt, by value: one event in, the record and the answer out.
-ghost use mathlib.Core.Bool.{true};
+ghost use mathlib.Core.Bool.{true, not, _||_};
 ghost use mathlib.Core.List.{[], _∷_, _++_};
 ghost use mathlib.Core.Path.{_≡_};
 ghost use Prim.Native.Nat.{_≤_};
@@ -8,21 +8,35 @@ ghost use Rattle.refusals.specs.Rule.{lowest};
 ghost use Rattle.versions.specs.Choice.{preferred};
 ghost use Rattle.versions.specs.Limits.{maxTable};
 ghost use Rattle.versions.specs.Wire.{entries, entryReply};
-ghost use Rattle.client.specs.Attempt.{put, ended};
-ghost use Rattle.client.specs.Step.{shown, unchanged, closed, after, Effect.acts, Effect.notes, Effect.completes, same, picks, missingRules, outcomeRules, onOutcome, onProcessed, countsFit};
+ghost use Rattle.information.specs.declared.Presence.the-variants.{Given};
+ghost use Rattle.client.specs.Attempt.{put, ended, isOpen, destinationOf, sourceOf};
+ghost use Rattle.client.specs.Events.{Reachable};
+ghost use Rattle.client.specs.Parts.{Parts};
+ghost use Rattle.client.specs.Step.{shown, unchanged, closed, after, Effect.acts, Effect.notes, Effect.completes, same, picks, missingRules, outcomeRules, informationRules, otherConnection, onDatagram, onOutcome, onProcessed, stepOf, stepOfAny, countsFit};
 ghost use Rattle.client.specs.declared.End.the-variants.{Completed};
 
 use crate::Answer;
 use crate::Attempt;
 use crate::End;
+use crate::Event;
+use crate::MAX_ID;
+use crate::NOT_A_RECORD;
 use crate::Stepped;
 use crate::own::is_member;
 use crate::own::word_of;
+use information::Information;
+use information::Presence;
+use information::Sender;
+use information::read_information;
+use invariants::Header;
+use invariants::reader::read_header;
 use refusals::Refusal;
 use versions::Entry;
 use versions::MAX_TABLE;
+use versions::Span;
 use versions::choosing::prefer;
 use versions::choosing::prefer_in_bytes;
+use versions::wire::contains_in_bytes;
 
 // The record with the fields that an event may change; every other field stays.
 fn changed(attempt: Attempt, attempted: u32, acted: bool, heard: bool, end: End) -> Attempt
@@ -198,4 +212,164 @@ fn on_missing(attempt: Attempt, in_use: u32) -> Stepped
         return close(attempt, Refusal::CHOSEN_NOT_IN_USE);
     }
     complete(attempt, in_use)
+}
+
+// 31 to 35 on an open attempt, which end it too, then 72 to 75.
+fn on_given(attempt: Attempt, in_use: u32, information: &[u8]) -> Stepped
+    requires { ⌜ countsFit attempt ≡ true ⌝ }
+    ensures { λ r. ⌜ shown r ≡ lowest (closed attempt) (informationRules attempt «in_use» Given (now (information .entry))) (after (ended attempt (Completed «in_use»)) (completes «in_use»)) ⌝ }
+{
+    match read_information(Sender::Server, information) {
+        Information::Refused(refusal) => close(attempt, refusal),
+        Information::Read { chosen, available } => {
+            let start = available.start;
+            let end = available.end;
+            judge_outcome(attempt, in_use, chosen, &information[start..end])
+        }
+    }
+}
+
+// An outcome: 62 if the attempt has ended.
+fn on_outcome(attempt: Attempt, in_use: u32, presence: Presence, information: &[u8]) -> Stepped
+    requires { ⌜ countsFit attempt ≡ true ⌝ }
+    ensures { λ r. ⌜ shown r ≡ onOutcome attempt «in_use» presence (now (information .entry)) ⌝ }
+{
+    let end = attempt.end;
+    match end {
+        End::Open => match presence {
+            Presence::Missing => on_missing(attempt, in_use),
+            Presence::Given => on_given(attempt, in_use, information),
+        },
+        End::Completed(_) => keep(attempt, Refusal::TOO_LATE),
+        End::Closed(_) => keep(attempt, Refusal::TOO_LATE),
+    }
+}
+
+// Whether it is too late for Version Negotiation: the attempt has ended, acted or heard before.
+fn is_late(attempt: Attempt) -> bool
+    ensures { λ r. ⌜ r ≡ (not (isOpen (attempt .end)) || (attempt .acted || attempt .heard)) ⌝ }
+{
+    let end = attempt.end;
+    match end {
+        End::Open => {
+            if attempt.acted {
+                return true;
+            }
+            attempt.heard
+        }
+        End::Completed(_) => true,
+        End::Closed(_) => true,
+    }
+}
+
+// Whether the packet's connection IDs are not ours, swapped.
+fn is_other_connection(attempt: Attempt, datagram: &[u8], destination: Span, source: Span, list: Span) -> bool
+    requires { ⌜ (countsFit attempt ≡ true) × Parts (now datagram) destination source list ⌝ }
+    ensures { λ r. ⌜ r ≡ otherConnection (destinationOf attempt) (sourceOf attempt) (now (datagram .entry)) ⌝ }
+{
+    let ours = attempt.source;
+    let ours_len = attempt.source_len;
+    let from = destination.start;
+    let to = destination.end;
+    if !same_bytes(&datagram[from..to], &ours[..ours_len]) {
+        return true;
+    }
+    let theirs = attempt.destination;
+    let theirs_len = attempt.destination_len;
+    let source_from = source.start;
+    let source_to = source.end;
+    !same_bytes(&datagram[source_from..source_to], &theirs[..theirs_len])
+}
+
+// 62 to 65 for a readable Version Negotiation packet, else the attempt acts on it.
+fn on_negotiation(attempt: Attempt, datagram: &[u8], destination: Span, source: Span, list: Span) -> Stepped
+    requires { ⌜ (countsFit attempt ≡ true) × Parts (now datagram) destination source list ⌝ }
+    ensures { λ r. ⌜ shown r ≡ onDatagram attempt (now (datagram .entry)) ⌝ }
+{
+    if is_late(attempt) {
+        return keep(attempt, Refusal::TOO_LATE);
+    }
+    if is_other_connection(attempt, datagram, destination, source, list) {
+        return keep(attempt, Refusal::OTHER_CONNECTION);
+    }
+    let start = list.start;
+    if contains_in_bytes(&datagram[start..], attempt.original) {
+        return keep(attempt, Refusal::LISTS_ORIGINAL);
+    }
+    let table = attempt.table;
+    let count = attempt.table_len;
+    match prefer_in_bytes(&table[..count], &datagram[start..]) {
+        Entry::Version(version) => act(attempt, version),
+        Entry::Nothing => close(attempt, Refusal::NO_VERSION_LEFT),
+    }
+}
+
+// A datagram: 61 if it is not a readable Version Negotiation packet.
+fn on_datagram(attempt: Attempt, datagram: &[u8]) -> Stepped
+    requires { ⌜ countsFit attempt ≡ true ⌝ }
+    ensures { λ r. ⌜ shown r ≡ onDatagram attempt (now (datagram .entry)) ⌝ }
+{
+    match read_header(datagram, 0) {
+        Header::VersionNegotiation {
+            destination,
+            source,
+            list,
+        } => on_negotiation(attempt, datagram, destination, source, list),
+        Header::Long {
+            version: _,
+            destination: _,
+            source: _,
+            rest: _,
+        } => keep(attempt, Refusal::NOT_VERSION_NEGOTIATION),
+        Header::Short {
+            destination: _,
+            rest: _,
+        } => keep(attempt, Refusal::NOT_VERSION_NEGOTIATION),
+        Header::Refused(_) => keep(attempt, Refusal::NOT_VERSION_NEGOTIATION),
+    }
+}
+
+// One event on a record whose counts are within its arrays.
+fn handle_event(attempt: Attempt, event: Event, bytes: &[u8]) -> Stepped
+    requires { ⌜ countsFit attempt ≡ true ⌝ }
+    ensures { λ r. ⌜ shown r ≡ stepOf attempt event (now (bytes .entry)) ⌝ }
+{
+    match event {
+        Event::Datagram => on_datagram(attempt, bytes),
+        Event::PacketProcessed => on_processed(attempt),
+        Event::Outcome {
+            in_use,
+            information,
+        } => on_outcome(attempt, in_use, information, bytes),
+    }
+}
+
+// One event, on a record that a start handed back, changed since by events alone. `bytes` is the datagram, or the
+// Version Information that is given; else it is not read. Refusals, in order:
+// a datagram: 61, 62, 63, 64, which leave the record unchanged; 65, which ends the attempt;
+// a processed packet: 62, unchanged;
+// an outcome: 62, unchanged; 31 to 35 and 71 to 75, which end the attempt. An ending changes the end mark alone.
+pub fn step(attempt: Attempt, event: Event, bytes: &[u8]) -> Stepped
+    requires { ⌜ Reachable attempt ⌝ }
+    ensures shown { λ r. ⌜ shown r ≡ stepOf attempt event (now (bytes .entry)) ⌝ }
+    ensures reachable { λ r. ⌜ Reachable (r .attempt) ⌝ }
+{
+    handle_event(attempt, event, bytes)
+}
+
+// The step for any record value. One whose counts are not within its arrays is no record: it is refused with
+// NOT_A_RECORD and left as found. Refusals else as `step`'s.
+pub fn step_any(attempt: Attempt, event: Event, bytes: &[u8]) -> Stepped
+    ensures { λ r. ⌜ shown r ≡ stepOfAny attempt event (now (bytes .entry)) ⌝ }
+{
+    if MAX_TABLE < attempt.table_len {
+        return keep(attempt, NOT_A_RECORD);
+    }
+    if MAX_ID < attempt.destination_len {
+        return keep(attempt, NOT_A_RECORD);
+    }
+    if MAX_ID < attempt.source_len {
+        return keep(attempt, NOT_A_RECORD);
+    }
+    handle_event(attempt, event, bytes)
 }

@@ -15,6 +15,9 @@ both-true false b e = absurd (false≢true e)
 refused-not-answered : {A : Type 0} (n : ℕ) (call : Call) (a : A) → refuse call n ≡ answered a → ⊥
 refused-not-answered n call a e = let z : _≡_ {A = ℕ} 0 1 = cc in omega arith
 
+pub answered-injective : {A : Type 0} (a b : A) → answered a ≡ answered b → a ≡ b
+answered-injective a b e = cc
+
 pub clear-append : (rs ss : List Rule) → clear (rs ++ ss) ≡ (clear rs && clear ss)
 clear-append [] ss = refl
 clear-append ((n when b) ∷ rs) ss =
