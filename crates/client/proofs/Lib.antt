@@ -1,4 +1,6 @@
 pub mod Demand3
+pub mod Marks
 pub mod OwnLists
+pub mod Padded
 pub mod Phases
 pub mod Worked
