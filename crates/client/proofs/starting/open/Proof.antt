@@ -1,3 +1,4 @@
+use Rattle.client.specs.Start.{opened}
 use borrow.Author.Needs.{needs}
 use Rattle.client.proofs.starting.open.Statement.{statement}
 use Rattle.client.proofs.starting.open.Tie as tie
@@ -25,7 +26,14 @@ padded-id-requires-2 c κs = search needs
 
 -- src/starting.rt:82:1
 returns : tie.Need-returns
-returns c = ?
+unfolding opened
+returns c =
+    rw (
+      c .before .before .before .padded-table .ensures,
+      c .before .before .rows-for .ensures,
+      c .before .padded-id .ensures,
+      c .padded-id2 .ensures,
+    )
 
 pub open-spec : {M : Type 1} → statement M
 open-spec =

@@ -11,7 +11,7 @@ blank-attempt-requires c κs = search needs
 
 -- src/starting.rt:72:1
 returns : tie.Need-returns
-returns c = ?
+returns c = rw (c .blank-attempt .ensures)
 
 pub refused-spec : {M : Type 1} → statement M
 refused-spec = tie.close (tie.spec blank-attempt-requires returns)
