@@ -55,7 +55,25 @@ loop-less c = omega arith
 
 -- src/own.rt:57:5
 loop-again : tie.Need-loop-again Inv-loop μ-loop
-loop-again c = ?
+loop-again c =
+    let at = c .before .before in
+    let args = at .before .args in
+    let wide : length (args .t1) ≡ maxTable = search needs in
+    let so-far = at .loop .inv .1 in
+    let l = at .loop in
+    (
+      omega arith,
+      ⊎-elim
+      (λ w.
+        rw (w .1, w .2)
+        (collected-one (args .word) (args .t1) (args .count) (l .versions) (l .found) (l .rest) (l .i) so-far
+        (omega arith) (at .before .pre) (c .before .loop-test .taken) (w .0 .taken)))
+      (λ w.
+        rw (w .1, w .2)
+        (collected-no (args .word) (args .t1) (args .count) (l .versions) (l .found) (l .rest) (l .i) so-far
+        (omega arith) (c .before .loop-test .taken) (w .0 .left)))
+      (c .if1 .came),
+    )
 
 -- src/own.rt:49:1
 returns : tie.Need-returns Inv-loop μ-loop
