@@ -1,3 +1,4 @@
+pub mod Blank
 pub mod Demand3
 pub mod Marks
 pub mod OwnLists
