@@ -1,7 +1,7 @@
 -- What every attempt keeps: its counts, which a start makes and no event changes. So the blank record of a refused
 -- start is no attempt.
 use Prim.Native.Nat.{ℕ, _≤_}
-use mathlib.Core.Bool.{Bool, true, false, cond, not, _&&_, _||_, Bool·not-not, false≢true}
+use mathlib.Core.Bool.{Bool, true, false, cond, not, _||_, Bool·not-not, false≢true}
 use mathlib.Core.List.{List, [], _∷_}
 use mathlib.Core.Option.{Option, Option.none, Option.some}
 use mathlib.Core.Path.{_≡_, refl, sym, subst, _∙_}

@@ -38,8 +38,5 @@ push-next n xs i room h =
     push n (take i xs) i (getD xs i 0) (length-take-le i xs (omega arith)) (omega arith) ∙
     ap (padded n) (sym (take-suc xs i 0 h) ∙ rw (add-one i))
 
-pub length-part : (n : ℕ) (xs : List ℕ) (i : ℕ) → length xs ≤ n → i ≤ length xs → length (padded n (take i xs)) ≡ n
-length-part n xs i room h = length-padded n (take i xs) (rw (length-take-le i xs h) (omega arith))
-
 pub padded-all : (n : ℕ) (xs : List ℕ) (i : ℕ) → length xs ≤ i → padded n (take i xs) ≡ padded n xs
 padded-all n xs i h = ap (padded n) (take-all i xs h)

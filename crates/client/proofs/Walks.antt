@@ -1,7 +1,7 @@
 -- The walks over a record's table: at each place i the rest of the table answers for the whole. The table is an array
 -- of which a count of places is used.
 use Prim.Native.Nat.{ℕ, _+_, _/_, _%_, _≤_, _<_}
-use mathlib.Core.Bool.{true, false}
+use mathlib.Core.Bool.{true}
 use mathlib.Core.List.{List, [], _∷_, _++_, append-nil}
 use mathlib.Core.Path.{_≡_, refl, sym, ap, _∙_}
 use native.Mathlib.Omega.{arith}
@@ -13,8 +13,7 @@ use Rattle.versions.specs.Table.{elem}
 use Rattle.versions.proofs.Lists.{drop-next}
 use Rattle.client.specs.Attempt.{padded, listInPlaces}
 use Rattle.client.specs.OwnList.{members, wordOf}
-use Rattle.client.specs.declared.OwnList.{OwnList}
-use Rattle.client.proofs.Padded.{padded-none, push}
+use Rattle.client.proofs.Padded.{push}
 
 -- The used part of an array: its rest at a place
 part-next : (xs : List ℕ) (count i : ℕ) → count ≤ length xs → i < count →

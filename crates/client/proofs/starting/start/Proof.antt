@@ -1,32 +1,21 @@
 -- `start` meets its contract: its refusals in order, then the open attempt. That an accepted start hands back a
 -- record which is reachable follows from the equation.
-use Prim.Native.Nat.{ℕ, _≤_, _<_}
+use Prim.Native.Nat.{_≤_, _<_}
 use mathlib.Core.Bool.{true, false}
-use mathlib.Core.List.{List, []}
-use mathlib.Core.Path.{_≡_, refl, sym, ap, _∙_}
-use native.Mathlib.Omega.{arith}
-use borrow.Author.Needs.{needs}
-use borrow.Author.Tests.{not-true, not-false, leb-true, lt-ltb, le-ltb}
-use lib.Dec.{leb}
+use mathlib.Core.List.{[]}
+use mathlib.Core.Path.{_≡_, sym, ap, _∙_}
 use lib.ListN.{length}
-use Rattle.refusals.proofs.Rules.{both-true}
-use Rattle.versions.specs.Limits.{maxTable}
+use borrow.Author.Needs.{needs}
+use borrow.Author.Tests.{not-true, not-false, lt-ltb, le-ltb}
 use Rattle.versions.specs.Pairs.{pairsKeepRule}
 use Rattle.versions.specs.Table.{elem, tableKeepsRule}
 use Rattle.client.specs.Events.{Reachable, run}
 use Rattle.client.specs.Limits.{maxID}
 use Rattle.client.specs.Start.{Input, inputOf, isAccepted, Start, shownStart, startOf, refusedStart, openedStart}
 use Rattle.client.specs.declared.Started.{Started}
+use Rattle.client.proofs.Blank.{table-counts}
 use Rattle.client.proofs.starting.start.Statement.{statement}
 use Rattle.client.proofs.starting.start.Tie as tie
-use Rattle.client.proofs.starting.start.Reads as reads
-use Rattle.client.proofs.starting.start.Lts as lts
-use Rattle.client.proofs.starting.open.Reads as open-reads
-use Rattle.client.proofs.starting.refused.Reads as refused-reads
-use Rattle.versions.proofs.pairs.are_pairs.Reads as are-pairs-reads
-use Rattle.versions.proofs.table.contains.Reads as contains-reads
-use Rattle.versions.proofs.table.is_table.Reads as is-table-reads
-
 
 -- The equation tells that the record is reachable
 promised : (x : Input) (s : Started) (t : Start) → shownStart s ≡ t → t ≡ startOf x →
@@ -83,35 +72,24 @@ held : (c : tie.Else3) →
     let x = told (c .before .before .before .before .before) in elem (x .original) (x .table) ≡ true
 held c = sym (c .before .contains .ensures) ∙ not-false _ (c .if3 .left)
 
-table-fits : (t : List ℕ) → tableKeepsRule t ≡ true → length t ≤ maxTable
-unfolding tableKeepsRule
-table-fits t h =
-    leb-true _ _ (both-true (leb (length t) maxTable) _ (both-true (leb 1 (length t)) _ h .1) .0)
-
--- src/starting.rt:130:9
 is-table-requires : tie.Need-is-table-requires
 is-table-requires c κs = search needs
 
--- src/starting.rt:131:9
 refused-requires : tie.Need-refused-requires
 refused-requires c κs = search needs
 
--- src/starting.rt:131:9
 returns : tie.Need-returns
 returns c =
     let x = told (c .before .before) in
     promised x (c .refused .result) (refusedStart 41) (c .refused .ensures)
     (bad-table x (sym (c .before .before .is-table .ensures) ∙ not-true _ (c .before .if1 .taken)))
 
--- src/starting.rt:133:9
 are-pairs-requires : tie.Need-are-pairs-requires
 are-pairs-requires c κs = search needs
 
--- src/starting.rt:134:9
 refused-requires-2 : tie.Need-refused-requires-2
 refused-requires-2 c κs = search needs
 
--- src/starting.rt:134:9
 returns-2 : tie.Need-returns-2
 returns-2 c =
     let at = c .before .before .before in
@@ -119,15 +97,12 @@ returns-2 c =
     promised x (c .refused2 .result) (refusedStart 43) (c .refused2 .ensures)
     (bad-pairs x (table-kept at) (sym (c .before .before .are-pairs .ensures) ∙ not-true _ (c .before .if2 .taken)))
 
--- src/starting.rt:136:9
 contains-requires : tie.Need-contains-requires
 contains-requires c κs = search needs
 
--- src/starting.rt:137:9
 refused-requires-3 : tie.Need-refused-requires-3
 refused-requires-3 c κs = search needs
 
--- src/starting.rt:137:9
 returns-3 : tie.Need-returns-3
 returns-3 c =
     let at = c .before .before .before in
@@ -136,11 +111,9 @@ returns-3 c =
     (not-held x (table-kept (at .before .before)) (pairs-kept at)
     (sym (c .before .before .contains .ensures) ∙ not-true _ (c .before .if3 .taken)))
 
--- src/starting.rt:140:9
 refused-requires-4 : tie.Need-refused-requires-4
 refused-requires-4 c κs = search needs
 
--- src/starting.rt:140:9
 returns-4 : tie.Need-returns-4
 returns-4 c =
     let at = c .before .before in
@@ -149,11 +122,9 @@ returns-4 c =
     (long-destination x (table-kept (at .before .before .before .before)) (pairs-kept (at .before .before)) (held at)
     (c .before .if4 .taken))
 
--- src/starting.rt:143:9
 refused-requires-5 : tie.Need-refused-requires-5
 refused-requires-5 c κs = search needs
 
--- src/starting.rt:143:9
 returns-5 : tie.Need-returns-5
 returns-5 c =
     let at = c .before .before .before in
@@ -162,13 +133,11 @@ returns-5 c =
     (long-source x (table-kept (at .before .before .before .before)) (pairs-kept (at .before .before)) (held at)
     (c .before .before .if4 .left) (c .before .if5 .taken))
 
--- src/starting.rt:145:5
 open-requires : tie.Need-open-requires
 open-requires c κs =
     let kept = c .before .before .before .before .before .before in
-    (table-fits _ (table-kept kept), c .before .if4 .left, c .if5 .left)
+    (table-counts _ (table-kept kept) .1, c .before .if4 .left, c .if5 .left)
 
--- src/starting.rt:120:1
 returns-6 : tie.Need-returns-6
 returns-6 c =
     let at = c .before .before .before in
