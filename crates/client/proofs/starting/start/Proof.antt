@@ -120,7 +120,7 @@ returns-4 c =
     let x = told (at .before .before .before .before .before) in
     promised x (c .refused4 .result) (refusedStart 45) (c .refused4 .ensures)
     (long-destination x (table-kept (at .before .before .before .before)) (pairs-kept (at .before .before)) (held at)
-    (c .before .if4 .taken))
+    (omega arith))
 
 refused-requires-5 : tie.Need-refused-requires-5
 refused-requires-5 c κs = search needs
@@ -131,12 +131,12 @@ returns-5 c =
     let x = told (at .before .before .before .before .before) in
     promised x (c .refused5 .result) (refusedStart 45) (c .refused5 .ensures)
     (long-source x (table-kept (at .before .before .before .before)) (pairs-kept (at .before .before)) (held at)
-    (c .before .before .if4 .left) (c .before .if5 .taken))
+    (omega arith) (omega arith))
 
 open-requires : tie.Need-open-requires
 open-requires c κs =
     let kept = c .before .before .before .before .before .before in
-    (table-counts _ (table-kept kept) .1, c .before .if4 .left, c .if5 .left)
+    (table-counts _ (table-kept kept) .1, omega arith, omega arith)
 
 returns-6 : tie.Need-returns-6
 returns-6 c =
@@ -144,7 +144,7 @@ returns-6 c =
     let x = told (at .before .before .before .before .before) in
     promised x (c .«open» .result) (openedStart x) (c .«open» .ensures)
     (is-open x (table-kept (at .before .before .before .before)) (pairs-kept (at .before .before)) (held at)
-    (c .before .before .if4 .left) (c .before .if5 .left))
+    (omega arith) (omega arith))
 
 pub start-spec : {M : Type 1} → statement M
 start-spec =
