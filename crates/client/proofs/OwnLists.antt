@@ -14,7 +14,7 @@ lowest-bit : (b : Bool) (w : ℕ) → eqb ((bit b + 2 * w) % 2) 1 ≡ b
 lowest-bit true w = let e : (1 + 2 * w) % 2 ≡ 1 = omega arith in rw e
 lowest-bit false w = let e : (0 + 2 * w) % 2 ≡ 0 = omega arith in rw e
 
-rest-bits : (b : Bool) (w : ℕ) → (bit b + 2 * w) / 2 ≡ w
+pub rest-bits : (b : Bool) (w : ℕ) → (bit b + 2 * w) / 2 ≡ w
 rest-bits true w = omega arith
 rest-bits false w = omega arith
 

@@ -1,53 +1,72 @@
+-- `collect`: at each place, the entries so far stand in their places, and the rest adds what is missing.
+use Prim.Native.Nat.{_-_, _≤_}
+use mathlib.Core.Logic.{⊎-elim}
+use mathlib.Core.Path.{_≡_}
+use native.Mathlib.Omega.{arith}
+use lib.ListN.{length, take}
+use borrow.Author.Needs.{needs}
+use Rattle.versions.specs.Limits.{maxTable}
+use Rattle.client.proofs.Padded.{padded-none}
+use Rattle.client.proofs.Walks.{Collected, collected-none, collected-one, collected-no, collected-all}
 use Rattle.client.proofs.own.collect.Statement.{statement}
 use Rattle.client.proofs.own.collect.Tie as tie
-use Rattle.client.proofs.own.collect.Reads as reads
-use Rattle.client.proofs.own.collect.Lts as lts
 
 abbrev Inv-loop : tie.InvT-loop
-Inv-loop count word table versions₀ found₀ rest₀ i₀ versions found rest i = ?
+Inv-loop count word table versions₀ found₀ rest₀ i₀ versions found rest i = (i ≤ count) × Collected word (take count table) versions found rest i
 
 abbrev μ-loop : tie.MeasureT-loop
-μ-loop count word table versions₀ found₀ rest₀ i₀ versions found rest i = ?
+μ-loop count word table versions₀ found₀ rest₀ i₀ versions found rest i = count - i
 
--- src/own.rt:57:5
 loop-holds : tie.Need-loop-holds Inv-loop μ-loop
-loop-holds c = ?
+loop-holds c = (omega arith, collected-none (c .args .word) (take (c .args .count) (c .args .t1)) _ (padded-none maxTable))
 
--- src/own.rt:59:31
 mul-versions : tie.Need-mul-versions Inv-loop μ-loop
-mul-versions c = ?
+mul-versions c = omega arith
 
--- src/own.rt:59:31
 array-read-versions : tie.Need-array-read-versions Inv-loop μ-loop
-array-read-versions c = ?
+array-read-versions c = omega arith
 
--- src/own.rt:59:13
 mul-versions-2 : tie.Need-mul-versions-2 Inv-loop μ-loop
-mul-versions-2 c = ?
+mul-versions-2 c = omega arith
 
--- src/own.rt:59:13
 array-write-versions : tie.Need-array-write-versions Inv-loop μ-loop
-array-write-versions c = ?
+array-write-versions c = omega arith
 
--- src/own.rt:60:13
 add-found : tie.Need-add-found Inv-loop μ-loop
-add-found c = ?
+add-found c = omega arith
 
--- src/own.rt:63:9
 add-i : tie.Need-add-i Inv-loop μ-loop
-add-i c = ?
+add-i c = omega arith
 
--- src/own.rt:57:5
 loop-less : tie.Need-loop-less Inv-loop μ-loop
-loop-less c = ?
+loop-less c = omega arith
 
--- src/own.rt:57:5
 loop-again : tie.Need-loop-again Inv-loop μ-loop
-loop-again c = ?
+loop-again c =
+    let at = c .before .before in
+    let args = at .before .args in
+    let wide : length (args .t1) ≡ maxTable = search needs in
+    let so-far = at .loop .inv .1 in
+    let l = at .loop in (
+      omega arith,
+      ⊎-elim
+          (λ w.
+          rw (w .1, w .2)
+          (collected-one (args .word) (args .t1) (args .count) (l .versions) (l .found) (l .rest) (l .i) so-far
+          (omega arith) (at .before .pre) (c .before .loop-test .taken) (w .0 .taken)))
+          (λ w.
+          rw (w .1, w .2)
+          (collected-no (args .word) (args .t1) (args .count) (l .versions) (l .found) (l .rest) (l .i) so-far
+          (omega arith) (c .before .loop-test .taken) (w .0 .left)))
+          (c .if1 .came),
+    )
 
--- src/own.rt:49:1
 returns : tie.Need-returns Inv-loop μ-loop
-returns c = ?
+returns c =
+    let at = c .before in
+    let args = at .before .args in
+    collected-all (args .word) (args .t1) (args .count) (at .loop .versions) (at .loop .found) (at .loop .rest) (at .loop .i)
+    (at .loop .inv .1) (c .loop-test .left)
 
 pub collect-spec : {M : Type 1} → statement M
 collect-spec =

@@ -1,45 +1,76 @@
+-- `is_member` meets its contract. The loop's invariant: the rest of the table, with the rest of the word, answers
+-- for the whole.
+use Prim.Native.Nat.{_-_, _≤_}
+use mathlib.Core.Logic.{⊎-elim}
+use mathlib.Core.Path.{_≡_, refl, sym, ap, _∙_}
+use native.Mathlib.Omega.{arith}
+use lib.ListN.{length, take, drop, getD}
+use borrow.Author.Needs.{needs}
+use Rattle.versions.specs.Limits.{maxTable}
+use Rattle.versions.specs.Table.{elem}
+use Rattle.client.specs.OwnList.{members}
+use Rattle.client.proofs.Walks.{bit-set, bit-clear, bits-end, first-is, first-is-not}
 use Rattle.client.proofs.own.is_member.Statement.{statement}
 use Rattle.client.proofs.own.is_member.Tie as tie
-use Rattle.client.proofs.own.is_member.Reads as reads
-use Rattle.client.proofs.own.is_member.Lts as lts
 
 abbrev Inv-loop : tie.InvT-loop
-Inv-loop count word version table rest₀ i₀ rest i = ?
+Inv-loop count word version table rest₀ i₀ rest i = (i ≤ count) × (elem version (members word (take count table)) ≡ elem version (members rest (drop i (take count table))))
 
 abbrev μ-loop : tie.MeasureT-loop
-μ-loop count word version table rest₀ i₀ rest i = ?
+μ-loop count word version table rest₀ i₀ rest i = count - i
 
--- src/own.rt:36:5
 loop-holds : tie.Need-loop-holds Inv-loop μ-loop
-loop-holds c = ?
+loop-holds c = (omega arith, refl)
 
--- src/own.rt:38:16
 mul-if2 : tie.Need-mul-if2 Inv-loop μ-loop
-mul-if2 c = ?
+mul-if2 c = omega arith
 
--- src/own.rt:38:16
 array-read-if2 : tie.Need-array-read-if2 Inv-loop μ-loop
-array-read-if2 c = ?
+array-read-if2 c = omega arith
 
--- src/own.rt:39:17
 returns : tie.Need-returns Inv-loop μ-loop
-returns c = ?
+returns c =
+    let at = c .before .before .before in
+    let args = at .before .args in
+    let wide : length (args .t1) ≡ maxTable = search needs in
+    sym
+    (at .loop .inv .1 ∙
+    ap (elem (args .version))
+    (bit-set (args .t1) (args .count) (at .loop .rest) (at .loop .i) (omega arith) (omega arith) (c .before .if1 .taken)) ∙
+    first-is (args .version) (getD (args .t1) (at .loop .i) 0) _ (c .if2 .taken))
 
--- src/own.rt:43:9
 add-i : tie.Need-add-i Inv-loop μ-loop
-add-i c = ?
+add-i c = omega arith
 
--- src/own.rt:36:5
 loop-less : tie.Need-loop-less Inv-loop μ-loop
-loop-less c = ?
+loop-less c = omega arith
 
--- src/own.rt:36:5
 loop-again : tie.Need-loop-again Inv-loop μ-loop
-loop-again c = ?
+loop-again c =
+    let at = c .before .before in
+    let args = at .before .args in
+    let wide : length (args .t1) ≡ maxTable = search needs in (
+      omega arith,
+      at .loop .inv .1 ∙
+          ⊎-elim
+          (λ w.
+          ap (elem (args .version))
+          (bit-set (args .t1) (args .count) (at .loop .rest) (at .loop .i) (omega arith) (omega arith) (w .0 .taken)) ∙
+          first-is-not (args .version) (getD (args .t1) (at .loop .i) 0) _ (w .1 .left))
+          (λ w.
+          ap (elem (args .version))
+          (bit-clear (args .t1) (args .count) (at .loop .rest) (at .loop .i) (omega arith) (omega arith) (w .left)))
+          (c .if1 .came),
+    )
 
--- src/own.rt:30:1
 returns-2 : tie.Need-returns-2 Inv-loop μ-loop
-returns-2 c = ?
+unfolding elem
+returns-2 c =
+    let at = c .before in
+    let args = at .before .args in
+    sym
+    (at .loop .inv .1 ∙
+    ap (elem (args .version)) (bits-end (args .t1) (args .count) (at .loop .rest) (at .loop .i) (c .loop-test .left)))
 
 pub is-member-spec : {M : Type 1} → statement M
 is-member-spec =

@@ -1,49 +1,52 @@
+-- `padded_table`: after i entries the array is the first i, in their places.
+use Prim.Native.Nat.{_-_, _≤_}
+use mathlib.Core.Path.{_≡_, _∙_}
+use native.Mathlib.Omega.{arith}
+use lib.ListN.{length, take}
+use Rattle.versions.specs.Limits.{maxTable}
+use Rattle.client.specs.Attempt.{padded}
+use Rattle.client.proofs.Padded.{padded-none, push-next, padded-all}
 use Rattle.client.proofs.starting.padded_table.Statement.{statement}
 use Rattle.client.proofs.starting.padded_table.Tie as tie
-use Rattle.client.proofs.starting.padded_table.Reads as reads
-use Rattle.client.proofs.starting.padded_table.Lts as lts
 
 abbrev Inv-loop : tie.InvT-loop
-Inv-loop table places₀ i₀ places i = ?
+Inv-loop table places₀ i₀ places i = (i ≤ length table) × (places ≡ padded maxTable (take i table))
 
 abbrev μ-loop : tie.MeasureT-loop
-μ-loop table places₀ i₀ places i = ?
+μ-loop table places₀ i₀ places i = length table - i
 
--- src/starting.rt:31:5
 loop-holds : tie.Need-loop-holds Inv-loop μ-loop
-loop-holds c = ?
+loop-holds c = (omega arith, padded-none maxTable)
 
--- src/starting.rt:32:21
 mul-places : tie.Need-mul-places Inv-loop μ-loop
-mul-places c = ?
+mul-places c = omega arith
 
--- src/starting.rt:32:21
 shared-slice-read-places : tie.Need-shared-slice-read-places Inv-loop μ-loop
-shared-slice-read-places c = ?
+shared-slice-read-places c = omega arith
 
--- src/starting.rt:32:9
 mul-places-2 : tie.Need-mul-places-2 Inv-loop μ-loop
-mul-places-2 c = ?
+mul-places-2 c = omega arith
 
--- src/starting.rt:32:9
 array-write-places : tie.Need-array-write-places Inv-loop μ-loop
-array-write-places c = ?
+array-write-places c = omega arith
 
--- src/starting.rt:33:9
 add-i : tie.Need-add-i Inv-loop μ-loop
-add-i c = ?
+add-i c = omega arith
 
--- src/starting.rt:31:5
 loop-less : tie.Need-loop-less Inv-loop μ-loop
-loop-less c = ?
+loop-less c = omega arith
 
--- src/starting.rt:31:5
 loop-again : tie.Need-loop-again Inv-loop μ-loop
-loop-again c = ?
+loop-again c =
+    let at = c .before .before in (
+      omega arith,
+      rw (at .loop .inv .1) (push-next maxTable (at .before .args .table .now) (at .loop .i) (at .before .pre) (omega arith)),
+    )
 
--- src/starting.rt:25:1
 returns : tie.Need-returns Inv-loop μ-loop
-returns c = ?
+returns c =
+    let at = c .before in
+    at .loop .inv .1 ∙ padded-all maxTable (at .before .args .table .now) (at .loop .i) (omega arith)
 
 pub padded-table-spec : {M : Type 1} → statement M
 padded-table-spec =

@@ -1,66 +1,82 @@
+-- `word_for`: from the pairs' end on, the word so far is that of the rest of the pairs.
+use Prim.Native.Nat.{_-_, _≤_}
+use mathlib.Core.List.{[]}
+use mathlib.Core.Path.{_≡_, ap, _∙_}
+use native.Mathlib.Omega.{arith}
+use lib.ListN.{length, drop, getD}
+use borrow.Author.Needs.{needs}
+use Rattle.versions.specs.Pairs.{toOf}
+use Rattle.client.specs.OwnList.{wordFor}
+use Rattle.client.specs.Words.{marked}
+use Rattle.client.proofs.Marks.{word-hit, word-miss, word-end}
 use Rattle.client.proofs.words.word_for.Statement.{statement}
 use Rattle.client.proofs.words.word_for.Tie as tie
-use Rattle.client.proofs.words.word_for.Reads as reads
-use Rattle.client.proofs.words.word_for.Lts as lts
-use Rattle.client.proofs.words.mark.Reads as mark-reads
 
 abbrev Inv-loop : tie.InvT-loop
-Inv-loop table pairs attempted word₀ k₀ word k = ?
+Inv-loop table pairs attempted word₀ k₀ word k = (k ≤ length pairs) × (word ≡ wordFor table (drop k pairs) attempted)
 
 abbrev μ-loop : tie.MeasureT-loop
-μ-loop table pairs attempted word₀ k₀ word k = ?
+μ-loop table pairs attempted word₀ k₀ word k = k
 
--- src/words.rt:34:9
 mark-requires : tie.Need-mark-requires Inv-loop μ-loop
-mark-requires c κs = ?
+mark-requires c κs = search needs
 
--- src/words.rt:36:5
 loop-holds : tie.Need-loop-holds Inv-loop μ-loop
-loop-holds c = ?
+loop-holds c =
+    let args = c .before .before .args in
+    (omega arith, c .mark .ensures ∙ word-end (args .table .now) (args .pairs .now) (args .attempted))
 
--- src/words.rt:37:9
 sub-k : tie.Need-sub-k Inv-loop μ-loop
-sub-k c = ?
+sub-k c = omega arith
 
--- src/words.rt:38:20
 mul-pair : tie.Need-mul-pair Inv-loop μ-loop
-mul-pair c = ?
+mul-pair c = search needs
 
--- src/words.rt:38:20
 shared-slice-copy-out-pair : tie.Need-shared-slice-copy-out-pair Inv-loop μ-loop
-shared-slice-copy-out-pair c = ?
+shared-slice-copy-out-pair c = omega arith
 
--- src/words.rt:39:12
 array-read-if1 : tie.Need-array-read-if1 Inv-loop μ-loop
-array-read-if1 c = ?
+array-read-if1 c = search needs
 
--- src/words.rt:40:32
 array-read-mark : tie.Need-array-read-mark Inv-loop μ-loop
-array-read-mark c = ?
+array-read-mark c = search needs
 
--- src/words.rt:40:13
 mark-requires-2 : tie.Need-mark-requires-2 Inv-loop μ-loop
-mark-requires-2 c κs = ?
+mark-requires-2 c κs = search needs
 
--- src/words.rt:36:5
 loop-less : tie.Need-loop-less Inv-loop μ-loop
-loop-less c = ?
+loop-less c = omega arith
 
--- src/words.rt:36:5
 loop-again : tie.Need-loop-again Inv-loop μ-loop
-loop-again c = ?
+loop-again c =
+    let at = c .before .before .before .before in
+    let args = at .before .before .before .args in
+    let pair = getD (args .pairs .now) (at .loop .k - 1) [] in (
+      omega arith,
+      c .mark2 .ensures ∙
+          ap (marked (args .table .now) (toOf pair)) (at .loop .inv .1) ∙
+          word-hit (args .table .now) (args .pairs .now) (args .attempted) (at .loop .k - 1) (at .loop .k) (omega arith) (omega arith)
+          (c .before .if1 .taken),
+    )
 
--- src/words.rt:36:5
 loop-less-2 : tie.Need-loop-less-2 Inv-loop μ-loop
-loop-less-2 c = ?
+loop-less-2 c = omega arith
 
--- src/words.rt:36:5
 loop-again-2 : tie.Need-loop-again-2 Inv-loop μ-loop
-loop-again-2 c = ?
+loop-again-2 c =
+    let at = c .before .before .before in
+    let args = at .before .before .before .args in (
+      omega arith,
+      at .loop .inv .1 ∙
+          word-miss (args .table .now) (args .pairs .now) (args .attempted) (at .loop .k - 1) (at .loop .k) (omega arith) (omega arith)
+          (c .if1 .left),
+    )
 
--- src/words.rt:30:1
 returns : tie.Need-returns Inv-loop μ-loop
-returns c = ?
+returns c =
+    let at = c .before in
+    let done : at .loop .k ≡ 0 = omega arith in
+    at .loop .inv .1 ∙ rw done
 
 pub word-for-spec : {M : Type 1} → statement M
 word-for-spec =
