@@ -10,7 +10,7 @@ use Rattle.client.proofs.stepping.handle_event.Reads as handle-event-re
 -- src/stepping.rt:357:5
 handle-event-requires : tie.Need-handle-event-requires
 handle-event-requires c κs =
-    let r = reachable-counts (c .before .args .attempt) (c .before .pre) in
+    let r = reachable-counts (c .before .pre) in
     counts-all (c .before .args .attempt) (r .0) (r .1) (r .2)
 
 -- src/stepping.rt:352:1
