@@ -34,19 +34,22 @@ unfolding readHeader
 told-ignored d told told′ e = rw e
 
 -- The form is Version Negotiation where the first byte and the version say so
-form-negotiation : (d : List ℕ) (told : ℕ) (isLong′ isZero : Bool) → isLong d ≡ isLong′ → eqb (versionOf d) 0 ≡ isZero → negotiationIn (answered (formOf d told)) ≡ (isLong′ && isZero)
+form-negotiation : (d : List ℕ) (told : ℕ) (isLong′ isZero : Bool) → isLong d ≡ isLong′ → eqb (versionOf d) 0 ≡ isZero
+    → negotiationIn (answered (formOf d told)) ≡ (isLong′ && isZero)
 form-negotiation d told true true e z = rw (e, z)
 form-negotiation d told true false e z = rw (e, z)
 form-negotiation d told false z e _ = rw e
 
-read-by-clear : (d : List ℕ) (isClear : Bool) → clear (headerRules d 0) ≡ isClear → (isClear && isVersionNegotiation d) ≡ negotiationIn (readHeader d 0)
+read-by-clear : (d : List ℕ) (isClear : Bool) → clear (headerRules d 0) ≡ isClear
+    → (isClear && isVersionNegotiation d) ≡ negotiationIn (readHeader d 0)
 unfolding readHeader
 read-by-clear d true e =
     rw (lowest-clear (refuse Reading) (answered (formOf d 0)) (headerRules d 0) e)
     (sym (form-negotiation d 0 (isLong d) (eqb (versionOf d) 0) refl refl))
 read-by-clear d false e =
     sym
-    (lowest-applies (refuse Reading) (answered (formOf d 0)) (λ (r : Reply Form). negotiationIn r ≡ false) (λ n. refl) (headerRules d 0) e)
+    (lowest-applies (refuse Reading) (answered (formOf d 0)) (λ (r : Reply Form). negotiationIn r ≡ false) (λ n. refl)
+    (headerRules d 0) e)
 
 -- A datagram is a readable Version Negotiation packet exactly where the reader answers one
 pub readable-is-read : (d : List ℕ) → isReadableNegotiation d ≡ negotiationIn (readHeader d 0)
@@ -54,13 +57,20 @@ unfolding isReadableNegotiation
 readable-is-read d = read-by-clear d (clear (headerRules d 0)) refl
 
 -- The same for an answer of `read_header`: false for each case but `VersionNegotiation`
-pub readable-by-reply : (d : List ℕ) (r : Header) → headerReply r ≡ readHeader d 0 → isReadableNegotiation d ≡ negotiationIn (headerReply r)
+pub readable-by-reply : (d : List ℕ) (r : Header) → headerReply r ≡ readHeader d 0
+    → isReadableNegotiation d ≡ negotiationIn (headerReply r)
 readable-by-reply d r e = readable-is-read d ∙ ap negotiationIn (sym e)
+
+-- The form of a Version Negotiation packet, with where its parts lie
+abbrev pub negotiationOf : List ℕ → Form
+negotiationOf d =
+    versionNegotiation (span 6 (6 + destinationLength d)) (span (sourceStart d) (restStart d))
+    (span (restStart d) (length d))
 
 -- What is known of a datagram that is a readable Version Negotiation packet
 pub record Readable (d : List ℕ) : Type 0 where
   -- what the reader answers, whatever the told length
-  pub reads : (told : ℕ) → readHeader d told ≡ answered (versionNegotiation (span 6 (6 + destinationLength d)) (span (sourceStart d) (restStart d)) (span (restStart d) (length d)))
+  pub reads : (told : ℕ) → readHeader d told ≡ answered (negotiationOf d)
   pub fits : length d ≤ maxDatagram
   -- no field runs past the end
   pub within : restStart d ≤ length d
@@ -113,7 +123,8 @@ pub record Answered (d : List ℕ) (destination source list : Span) : Type 0 whe
   pub source-is : source ≡ span (sourceStart d) (restStart d)
   pub list-is : list ≡ span (restStart d) (length d)
 
-pub answered-known : (d : List ℕ) (D S L : Span) → readHeader d 0 ≡ answered (versionNegotiation D S L) → Answered d D S L
+pub answered-known : (d : List ℕ) (D S L : Span) → readHeader d 0 ≡ answered (versionNegotiation D S L)
+    → Answered d D S L
 answered-known d D S L e =
     let readable : isReadableNegotiation d ≡ true = readable-is-read d ∙ ap negotiationIn e in
     let known = readable-known d readable in
@@ -121,5 +132,6 @@ answered-known d D S L e =
     record { readable = readable; known = known; destination-is = cc same; source-is = cc same; list-is = cc same }
 
 -- The same for an answer of `read_header`
-pub answered-by-reply : (d : List ℕ) (r : Header) (D S L : Span) → headerReply r ≡ readHeader d 0 → r ≡ VersionNegotiation D S L → Answered d D S L
+pub answered-by-reply : (d : List ℕ) (r : Header) (D S L : Span) → headerReply r ≡ readHeader d 0 → r ≡ VersionNegotiation D S L
+    → Answered d D S L
 answered-by-reply d r D S L e is = answered-known d D S L (sym e ∙ ap headerReply is)

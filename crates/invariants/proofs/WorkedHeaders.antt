@@ -23,17 +23,20 @@ sent = negotiation (0 ∷ 0 ∷ 0 ∷ 0x0e ∷ 0 ∷ 0 ∷ 0 ∷ 0x0d ∷ 0 ∷ 
 pub record Long : Type 0 where
   pub received-read : readHeader received 0 ≡ answered (long 12 (span 6 8) (span 9 10) (span 10 11))
   -- the rest may be empty; each field before it, cut off by one byte, is 12
-  pub no-rest : readHeader (0xc0 ∷ 0 ∷ 0 ∷ 0 ∷ 0x0c ∷ 2 ∷ 0xaa ∷ 0xbb ∷ 1 ∷ 0xcc ∷ []) 0 ≡ answered (long 12 (span 6 8) (span 9 10) (span 10 10))
+  pub no-rest : readHeader (0xc0 ∷ 0 ∷ 0 ∷ 0 ∷ 0x0c ∷ 2 ∷ 0xaa ∷ 0xbb ∷ 1 ∷ 0xcc ∷ []) 0
+      ≡ answered (long 12 (span 6 8) (span 9 10) (span 10 10))
   pub source-cut : readHeader (0xc0 ∷ 0 ∷ 0 ∷ 0 ∷ 0x0c ∷ 2 ∷ 0xaa ∷ 0xbb ∷ 1 ∷ []) 0 ≡ refuse Reading 12
   pub source-length-cut : readHeader (0xc0 ∷ 0 ∷ 0 ∷ 0 ∷ 0x0c ∷ 2 ∷ 0xaa ∷ 0xbb ∷ []) 0 ≡ refuse Reading 12
   pub destination-cut : readHeader (0xc0 ∷ 0 ∷ 0 ∷ 0 ∷ 0x0c ∷ 2 ∷ 0xaa ∷ []) 0 ≡ refuse Reading 12
   pub version-cut : readHeader (0xc0 ∷ 0 ∷ 0 ∷ 0 ∷ []) 0 ≡ refuse Reading 12
   -- "the least length is 7"
-  pub least : readHeader (0x80 ∷ 1 ∷ 2 ∷ 3 ∷ 4 ∷ 0 ∷ 0 ∷ []) 0 ≡ answered (long 0x01020304 (span 6 6) (span 7 7) (span 7 7))
+  pub least : readHeader (0x80 ∷ 1 ∷ 2 ∷ 3 ∷ 4 ∷ 0 ∷ 0 ∷ []) 0
+      ≡ answered (long 0x01020304 (span 6 6) (span 7 7) (span 7 7))
   -- a long form ignores the told length
   pub told-256 : readHeader received 256 ≡ readHeader received 0
   -- both IDs of 255 bytes
-  pub longest : readHeader (0x80 ∷ 0 ∷ 0 ∷ 0 ∷ 1 ∷ 255 ∷ replicate 255 7 ++ 255 ∷ replicate 255 8) 0 ≡ answered (long 1 (span 6 261) (span 262 517) (span 517 517))
+  pub longest : readHeader (0x80 ∷ 0 ∷ 0 ∷ 0 ∷ 1 ∷ 255 ∷ replicate 255 7 ++ 255 ∷ replicate 255 8) 0
+      ≡ answered (long 1 (span 6 261) (span 262 517) (span 517 517))
 
 pub record Negotiation : Type 0 where
   pub sent-read : readHeader sent 0 ≡ answered (versionNegotiation (span 6 7) (span 8 10) (span 10 22))
@@ -45,7 +48,8 @@ pub record Negotiation : Type 0 where
   pub three-bytes : readHeader (negotiation (0 ∷ 0 ∷ 0 ∷ [])) 0 ≡ refuse Reading 13
   pub three-left-over : readHeader (negotiation (0 ∷ 0 ∷ 0 ∷ 14 ∷ 0 ∷ 0 ∷ 0 ∷ [])) 0 ≡ refuse Reading 13
   -- "An entry of 0 there is only an entry that no table holds"
-  pub entry-zero : readHeader (negotiation (0 ∷ 0 ∷ 0 ∷ 0 ∷ [])) 0 ≡ answered (versionNegotiation (span 6 7) (span 8 10) (span 10 14))
+  pub entry-zero : readHeader (negotiation (0 ∷ 0 ∷ 0 ∷ 0 ∷ [])) 0
+      ≡ answered (versionNegotiation (span 6 7) (span 8 10) (span 10 14))
 
 pub record Short : Type 0 where
   pub told-0 : readHeader (0x7f ∷ 1 ∷ 2 ∷ []) 0 ≡ answered (short (span 1 1) (span 1 3))
@@ -59,7 +63,8 @@ pub record Length : Type 0 where
   pub full : readHeader (replicate 65535 64) 8 ≡ answered (short (span 1 9) (span 9 65535))
   pub over : readHeader (replicate 65536 64) 8 ≡ refuse Reading 11
   -- "at most 16,382" versions, and the lowest of two refusals
-  pub full-list : readHeader (0x80 ∷ replicate 65534 0) 0 ≡ answered (versionNegotiation (span 6 6) (span 7 7) (span 7 65535))
+  pub full-list : readHeader (0x80 ∷ replicate 65534 0) 0
+      ≡ answered (versionNegotiation (span 6 6) (span 7 7) (span 7 65535))
   pub over-list : readHeader (0x80 ∷ replicate 65535 0) 0 ≡ refuse Reading 11
 
 pub long-headers : Long

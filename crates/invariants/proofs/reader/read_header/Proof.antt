@@ -17,10 +17,16 @@ shared-slice-read-if3 : tie.Need-shared-slice-read-if3
 shared-slice-read-if3 c = search needs
 
 read-short-requires : tie.Need-read-short-requires
-read-short-requires c κs = (omega (arith, c .before .before .if2 .left), (c .before .before .before .if1 .left, lt-leb _ _ (c .if3 .taken)))
+read-short-requires c κs = (
+  omega (arith, c .before .before .if2 .left),
+  (c .before .before .before .if1 .left, lt-leb _ _ (c .if3 .taken)),
+)
 
 read-long-requires : tie.Need-read-long-requires
-read-long-requires c κs = (omega (arith, c .before .before .if2 .left), (c .before .before .before .if1 .left, le-leb _ _ (c .if3 .left)))
+read-long-requires c κs = (
+  omega (arith, c .before .before .if2 .left),
+  (c .before .before .before .if1 .left, le-leb _ _ (c .if3 .left)),
+)
 
 returns-3 : tie.Need-returns-3
 returns-3 c = search needs

@@ -8,7 +8,8 @@ use Rattle.invariants.proofs.Headers.{shortReply, reads-short}
 use Rattle.invariants.proofs.reader.read_short.Statement.{statement}
 use Rattle.invariants.proofs.reader.read_short.Tie as tie
 
-by-form : (c : tie.Start) → readHeader (now (c .args .datagram)) (c .args .told) ≡ shortReply (now (c .args .datagram)) (c .args .told)
+by-form : (c : tie.Start)
+    → readHeader (now (c .args .datagram)) (c .args .told) ≡ shortReply (now (c .args .datagram)) (c .args .told)
 by-form c = reads-short _ _ (c .pre .0) (c .pre .1 .0) (c .pre .1 .1)
 
 returns : tie.Need-returns
