@@ -59,15 +59,15 @@ module _ (a : Attempt) (u : ℕ) (bytes : List ℕ) where
       let f = e ∙ server-read bytes in
       let w : clear (formRules bytes) ≡ true = answered-clear Reading (foundIn bytes) (found c s) (formRules bytes) f in
       let g : found c s ≡ foundIn bytes =
-          answered-injective (found c s) (foundIn bytes)
-          (f ∙ lowest-clear (refuse Reading) (answered (foundIn bytes)) (formRules bytes) w) in
+      answered-injective (found c s) (foundIn bytes)
+      (f ∙ lowest-clear (refuse Reading) (answered (foundIn bytes)) (formRules bytes) w) in
       let k : not (ltb (length bytes) versionBytes) ≡ true = both-true _ _ w .0 in
       record {
         well-formed = w;
         chosen-is = ap (λ (r : Found). r .chosen) g;
         start-is = ap (λ (r : Found). r .available .start) g;
         end-is = ap (λ (r : Found). r .available .end) g;
-        long-enough = ltb-false _ _ (not-true _ k)
+        long-enough = ltb-false _ _ (not-true _ k);
       }
 
   pub given-read : (c : ℕ) (s : Span) → Given-read c s →

@@ -23,8 +23,8 @@ reachable-step a e bs r =
       accepted = r .accepted;
       events = r .events ++ last;
       reached =
-        run-append (startOf (r .input) .attempt) (r .events) last ∙
-        ap (λ (b : Attempt). stepOf b e bs .attempt) (r .reached)
+          run-append (startOf (r .input) .attempt) (r .events) last ∙
+          ap (λ (b : Attempt). stepOf b e bs .attempt) (r .reached);
     }
 
 -- the record that a step handed back

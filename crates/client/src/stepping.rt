@@ -14,7 +14,6 @@ ghost use Rattle.client.specs.Events.{Reachable};
 ghost use Rattle.client.specs.Parts.{Parts};
 ghost use Rattle.client.specs.Step.{shown, unchanged, closed, after, Effect.acts, Effect.notes, Effect.completes, same, picks, missingRules, outcomeRules, informationRules, otherConnection, onDatagram, onOutcome, onProcessed, stepOf, stepOfAny, countsFit};
 ghost use Rattle.client.specs.declared.End.the-variants.{Completed};
-
 use crate::Answer;
 use crate::Attempt;
 use crate::End;
@@ -77,7 +76,13 @@ fn close(attempt: Attempt, refusal: Refusal) -> Stepped
     ensures { λ r. ⌜ shown r ≡ closed attempt (refusal .0) ⌝ }
 {
     let end = End::Closed(refusal.0);
-    let next = changed(attempt, attempt.attempted, attempt.acted, attempt.heard, end);
+    let next = changed(
+        attempt,
+        attempt.attempted,
+        attempt.acted,
+        attempt.heard,
+        end,
+    );
     Stepped {
         attempt: next,
         answer: Answer::Refused(refusal),
@@ -88,7 +93,13 @@ fn complete(attempt: Attempt, version: u32) -> Stepped
     ensures { λ r. ⌜ shown r ≡ after (ended attempt (Completed version)) (completes version) ⌝ }
 {
     let end = End::Completed(version);
-    let next = changed(attempt, attempt.attempted, attempt.acted, attempt.heard, end);
+    let next = changed(
+        attempt,
+        attempt.attempted,
+        attempt.acted,
+        attempt.heard,
+        end,
+    );
     Stepped {
         attempt: next,
         answer: Answer::Completed(version),
@@ -263,7 +274,13 @@ fn is_late(attempt: Attempt) -> bool
 }
 
 // Whether the packet's connection IDs are not ours, swapped.
-fn is_other_connection(attempt: Attempt, datagram: &[u8], destination: Span, source: Span, list: Span) -> bool
+fn is_other_connection(
+    attempt: Attempt,
+    datagram: &[u8],
+    destination: Span,
+    source: Span,
+    list: Span,
+) -> bool
     requires { ⌜ (countsFit attempt ≡ true) × Parts (now datagram) destination source list ⌝ }
     ensures { λ r. ⌜ r ≡ otherConnection (destinationOf attempt) (sourceOf attempt) (now (datagram .entry)) ⌝ }
 {
@@ -282,7 +299,13 @@ fn is_other_connection(attempt: Attempt, datagram: &[u8], destination: Span, sou
 }
 
 // 62 to 65 for a readable Version Negotiation packet, else the attempt acts on it.
-fn on_negotiation(attempt: Attempt, datagram: &[u8], destination: Span, source: Span, list: Span) -> Stepped
+fn on_negotiation(
+    attempt: Attempt,
+    datagram: &[u8],
+    destination: Span,
+    source: Span,
+    list: Span,
+) -> Stepped
     requires { ⌜ (countsFit attempt ≡ true) × Parts (now datagram) destination source list ⌝ }
     ensures { λ r. ⌜ shown r ≡ onDatagram attempt (now (datagram .entry)) ⌝ }
 {

@@ -24,15 +24,14 @@ enum-known-destination c = search needs
 -- src/stepping.rt:317:14
 on-negotiation-requires : tie.Need-on-negotiation-requires
 on-negotiation-requires c κs =
-    let a = answered-by-reply (now (c .before .before .before .before .before .args .datagram)) _ _ _ _ (c .before .before .before .read-header .ensures) (c .before .destination .given .1) in
-    (
+    let a = answered-by-reply (now (c .before .before .before .before .before .args .datagram)) _ _ _ _ (c .before .before .before .read-header .ensures) (c .before .destination .given .1) in (
       c .before .before .before .before .before .pre,
       record {
         readable = a .readable;
         within = a .known .within;
         destination-is = a .destination-is;
         source-is = a .source-is;
-        list-is = a .list-is
+        list-is = a .list-is;
       },
     )
 

@@ -1,5 +1,4 @@
 use borrow.Author.Needs.{needs}
-
 use mathlib.Core.Path.{sym, ap, _∙_}
 use denote.Ref.{now}
 use Rattle.information.specs.declared.Presence.{Presence}
