@@ -17,6 +17,7 @@ use Rattle.invariants.specs.Header.{isReadableNegotiation}
 use Rattle.information.specs.Information.{informationBytes}
 use Rattle.information.specs.declared.Presence.the-variants.{Missing, Given}
 use Rattle.client.specs.Attempt.{padded, ownOf}
+use Rattle.client.specs.Demand.{actedWith, firstOutcome, CompletedAgainst}
 use Rattle.client.specs.Events.{Handed, run}
 use Rattle.client.specs.OwnList.{members, wordOf, wordFor, rowsFor, mayBeAnswered}
 use Rattle.client.specs.Start.{Input, startOf, opened, blank}
@@ -24,7 +25,7 @@ use Rattle.client.specs.Step.{Effect, Effect.acts, Effect.completes, ste
 use Rattle.client.specs.declared.Attempt.{Attempt}
 use Rattle.client.specs.declared.End.{End}
 use Rattle.client.specs.declared.End.the-variants.{Completed, Closed, Open}
-use Rattle.client.specs.declared.Event.the-variants.{Datagram, Outcome}
+use Rattle.client.specs.declared.Event.the-variants.{Datagram, PacketProcessed, Outcome}
 
 -- What a case shows: a choice from a list, or the answers to the events with the record after them
 data Shown : Type 0 where
@@ -120,7 +121,59 @@ cases =
     (went (answered (acts 3) ∷ refuse Reading 72 ∷ []) 3 (3 ∷ 4 ∷ []) (Closed 72)) ∷
     []
 
+-- P4 with refused events around: a datagram that is no Version Negotiation packet (61), one for another connection (63:
+-- its IDs are not swapped), one that lists the Original Version (64), a second packet after the act (62), and events
+-- after the end (62)
+night : List Handed
+night =
+    record { event = Datagram; bytes = 0x40 ∷ [] } ∷
+    record {
+      event = Datagram;
+      bytes =
+          (0xc0 ∷ 0 ∷ 0 ∷ 0 ∷ 0 ∷ (length ourDestination ∷ ourDestination)) ++
+          ((length ourSource ∷ ourSource) ++ listBytes (10 ∷ []));
+    } ∷
+    packet (12 ∷ 14 ∷ []) ∷
+    packet (10 ∷ 13 ∷ 14 ∷ []) ∷
+    packet (10 ∷ []) ∷
+    outcome 14 14 (13 ∷ 14 ∷ []) ∷
+    outcome 10 10 (10 ∷ []) ∷
+    record { event = PacketProcessed; bytes = [] } ∷
+    []
+
+refusals : List (Reply Effect)
+refusals =
+    refuse Reading 61 ∷
+    refuse Reading 63 ∷
+    refuse Reading 64 ∷
+    answered (acts 14) ∷
+    refuse Reading 62 ∷
+    answered (completes 14) ∷
+    refuse Reading 62 ∷
+    refuse Reading 62 ∷
+    []
+
 -- Each case computes to what document 01 says
 P1-to-P12 : map computed cases ≡ map expected cases
 unfolding computed expected ourDestination ourSource start packet outcome missing answers attempt three four cases closeOf codeIn table choose preferred paired pairKeepsRule eachPairKeepsRule pairsKeepRule elem entriesKeepRule tableKeepsRule reserved usable entries listBytes isReadableNegotiation padded ownOf run members wordOf wordFor rowsFor mayBeAnswered startOf opened blank stepOf onDatagram onProcessed onOutcome same
 P1-to-P12 = refl
+
+night-answers : answers (startOf (start three [] 12) .attempt) night ≡ refusals
+unfolding night refusals computed expected ourDestination ourSource start packet outcome missing answers attempt three four cases closeOf codeIn table choose preferred paired pairKeepsRule eachPairKeepsRule pairsKeepRule elem entriesKeepRule tableKeepsRule reserved usable entries listBytes isReadableNegotiation padded ownOf run members wordOf wordFor rowsFor mayBeAnswered startOf opened blank stepOf onDatagram onProcessed onOutcome same
+night-answers = refl
+
+-- The premises of demand 3 and of its corollary can be met
+witness : CompletedAgainst (13 ∷ 14 ∷ []) (start three [] 12) night 14
+unfolding night actedWith firstOutcome computed expected ourDestination ourSource start packet outcome missing answers attempt three four cases closeOf codeIn table choose preferred paired pairKeepsRule eachPairKeepsRule pairsKeepRule elem entriesKeepRule tableKeepsRule reserved usable entries listBytes isReadableNegotiation padded ownOf run members wordOf wordFor rowsFor mayBeAnswered startOf opened blank stepOf onDatagram onProcessed onOutcome same
+witness =
+    record {
+      accepted = refl;
+      acted = refl;
+      completed = refl;
+      handshake = record { inUse = 14; presence = Given; bytes = informationBytes 14 (13 ∷ 14 ∷ []) };
+      first = refl;
+      information = record { chosen = 14; available = 13 ∷ 14 ∷ [] };
+      read = refl;
+      against = refl;
+      holdsVersionInUse = refl;
+    }

@@ -1,3 +1,4 @@
+-- `chooses_again` meets its contract: the law of joined lists lets the choice stand for the list that it was made from.
 use borrow.Author.Needs.{needs}
 use mathlib.Core.Option.{Option}
 use mathlib.Core.Path.{sym, ap, _∙_}
@@ -8,49 +9,34 @@ use Rattle.client.specs.Step.{picks}
 use Rattle.client.proofs.Steps.{added-some, added-none}
 use Rattle.client.proofs.stepping.chooses_again.Statement.{statement}
 use Rattle.client.proofs.stepping.chooses_again.Tie as tie
-use Rattle.client.proofs.stepping.chooses_again.Reads as reads
-use Rattle.client.proofs.stepping.chooses_again.Lts as lts
-use Rattle.client.proofs.stepping.is_version.Reads as is-version-reads
-use Rattle.versions.proofs.choosing.prefer.Reads as prefer-reads
-use Rattle.versions.proofs.choosing.prefer_in_bytes.Reads as prefer-in-bytes-reads
 
--- src/stepping.rt:144:11
 prefer-in-bytes-requires : tie.Need-prefer-in-bytes-requires
 prefer-in-bytes-requires c κs = search needs
 
--- src/stepping.rt:145:24
 enum-known-version : tie.Need-enum-known-version
 enum-known-version c = search needs
 
--- src/stepping.rt:147:38
 slice-aggregate-prefer : tie.Need-slice-aggregate-prefer
 slice-aggregate-prefer c = search needs
 
--- src/stepping.rt:147:24
 prefer-requires : tie.Need-prefer-requires
 prefer-requires c κs = search needs
 
--- src/stepping.rt:147:13
 is-version-requires : tie.Need-is-version-requires
 is-version-requires c κs = search needs
 
--- src/stepping.rt:150:17
 enum-told : tie.Need-enum-told
 enum-told c = search needs
 
--- src/stepping.rt:151:38
 slice-aggregate-prefer-2 : tie.Need-slice-aggregate-prefer-2
 slice-aggregate-prefer-2 c = search needs
 
--- src/stepping.rt:151:24
 prefer-requires-2 : tie.Need-prefer-requires-2
 prefer-requires-2 c κs = search needs
 
--- src/stepping.rt:151:13
 is-version-requires-2 : tie.Need-is-version-requires-2
 is-version-requires-2 c κs = search needs
 
--- src/stepping.rt:141:1
 returns : tie.Need-returns
 returns c =
     let g = c .before .before .before .before .before .before .before .before .before .args in
@@ -61,7 +47,6 @@ returns c =
     (added-some (now (g .table)) (entries (now (g .available))) (g .in-use) _
     (sym (c .before .before .before .before .before .before .prefer-in-bytes .ensures) ∙ ap entryReply (c .before .before .before .before .version .given .1))))
 
--- src/stepping.rt:141:1
 returns-2 : tie.Need-returns-2
 returns-2 c =
     let g = c .before .before .before .before .before .before .before .before .args in

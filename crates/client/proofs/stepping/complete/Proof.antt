@@ -1,15 +1,11 @@
+-- `complete` meets its contract: the record after an ending is the one that `changed` makes.
 use borrow.Author.Needs.{needs}
 use Rattle.client.proofs.stepping.complete.Statement.{statement}
 use Rattle.client.proofs.stepping.complete.Tie as tie
-use Rattle.client.proofs.stepping.complete.Reads as reads
-use Rattle.client.proofs.stepping.complete.Lts as lts
-use Rattle.client.proofs.stepping.changed.Reads as changed-reads
 
--- src/stepping.rt:77:9
 changed-requires : tie.Need-changed-requires
 changed-requires c κs = search needs
 
--- src/stepping.rt:73:1
 returns : tie.Need-returns
 returns c = rw (c .changed .ensures)
 

@@ -1,3 +1,4 @@
+-- `handle_event` meets its contract: event by event.
 use borrow.Author.Needs.{needs}
 use mathlib.Core.Path.{sym, ap, _∙_}
 use denote.Ref.{now}
@@ -5,47 +6,33 @@ use Rattle.client.specs.Step.{stepOf}
 use Rattle.client.specs.declared.Event.{Event}
 use Rattle.client.proofs.stepping.handle_event.Statement.{statement}
 use Rattle.client.proofs.stepping.handle_event.Tie as tie
-use Rattle.client.proofs.stepping.handle_event.Reads as reads
-use Rattle.client.proofs.stepping.handle_event.Lts as lts
-use Rattle.client.proofs.stepping.on_datagram.Reads as on-datagram-reads
-use Rattle.client.proofs.stepping.on_outcome.Reads as on-outcome-reads
-use Rattle.client.proofs.stepping.on_processed.Reads as on-processed-reads
 
--- src/stepping.rt:338:28
 enum-told : tie.Need-enum-told
 enum-told c = search needs
 
--- src/stepping.rt:338:28
 on-datagram-requires : tie.Need-on-datagram-requires
 on-datagram-requires c κs = search needs
 
--- src/stepping.rt:339:35
 enum-told-2 : tie.Need-enum-told-2
 enum-told-2 c = search needs
 
--- src/stepping.rt:339:35
 on-processed-requires : tie.Need-on-processed-requires
 on-processed-requires c κs = search needs
 
--- src/stepping.rt:341:13
 enum-known-event : tie.Need-enum-known-event
 enum-known-event c = search needs
 
--- src/stepping.rt:343:14
 on-outcome-requires : tie.Need-on-outcome-requires
 on-outcome-requires c κs = search needs
 
--- src/stepping.rt:333:1
 returns : tie.Need-returns
 unfolding stepOf
 returns c = c .on-datagram .ensures ∙ ap (λ (e : Event). stepOf (c .before .before .before .before .args .attempt) e (now (c .before .before .before .before .args .bytes))) (sym (c .before .enum-told .given .1))
 
--- src/stepping.rt:333:1
 returns-2 : tie.Need-returns-2
 unfolding stepOf
 returns-2 c = c .on-processed .ensures ∙ ap (λ (e : Event). stepOf (c .before .before .before .before .args .attempt) e (now (c .before .before .before .before .args .bytes))) (sym (c .before .enum-told2 .given .1))
 
--- src/stepping.rt:333:1
 returns-3 : tie.Need-returns-3
 unfolding stepOf
 returns-3 c = c .on-outcome .ensures ∙ ap (λ (e : Event). stepOf (c .before .before .before .before .before .args .attempt) e (now (c .before .before .before .before .before .args .bytes))) (sym (c .before .before .event .given .1))

@@ -1,3 +1,4 @@
+-- `is_other_connection` meets its contract: the parts of the datagram that are compared are its connection IDs.
 use borrow.Author.Needs.{needs}
 use mathlib.Core.Path.{_≡_, sym, ap, _∙_}
 use mathlib.Core.Bool.{true, false, not}
@@ -15,82 +16,65 @@ use Rattle.client.proofs.Negotiating.{destination-from, destination-to,
 use Rattle.client.proofs.Steps.{counts-destination, counts-source}
 use Rattle.client.proofs.stepping.is_other_connection.Statement.{statement}
 use Rattle.client.proofs.stepping.is_other_connection.Tie as tie
-use Rattle.client.proofs.stepping.is_other_connection.Reads as reads
-use Rattle.client.proofs.stepping.is_other_connection.Lts as lts
-use Rattle.client.proofs.stepping.same_bytes.Reads as same-bytes-reads
 
 to-us : (c : tie.After-same-bytes) → c .same-bytes .result ≡ same (destinationID (now (c .before .before .before .before .before .args .datagram))) (sourceOf (c .before .before .before .before .before .args .attempt))
 to-us c =
     c .same-bytes .ensures ∙ ap (λ (x : List ℕ). same x (sourceOf (c .before .before .before .before .before .args .attempt))) (destination-part (now (c .before .before .before .before .before .args .datagram)) (c .before .before .before .before .before .args .destination) (c .before .before .before .before .before .args .source) (c .before .before .before .before .before .args .list) (c .before .before .before .before .before .pre .1))
 
--- src/stepping.rt:274:20
 sub-same-bytes : tie.Need-sub-same-bytes
 sub-same-bytes c = destination-from (now (c .before .before .args .datagram)) (c .before .before .args .destination) (c .before .before .args .source) (c .before .before .args .list) (c .before .before .pre .1)
 
--- src/stepping.rt:274:20
 part-same-bytes-start : tie.Need-part-same-bytes-start
 part-same-bytes-start c = destination-from (now (c .before .before .args .datagram)) (c .before .before .args .destination) (c .before .before .args .source) (c .before .before .args .list) (c .before .before .pre .1)
 
--- src/stepping.rt:274:20
 part-same-bytes-end : tie.Need-part-same-bytes-end
 part-same-bytes-end c = destination-to (now (c .before .before .args .datagram)) (c .before .before .args .destination) (c .before .before .args .source) (c .before .before .args .list) (c .before .before .pre .1)
 
--- src/stepping.rt:274:41
 array-share-prefix-ours : tie.Need-array-share-prefix-ours
 array-share-prefix-ours c =
     let e : length (c .before .before .before .args .attempt .source) ≡ maxID = search needs in
     let l = counts-source (c .before .before .before .args .attempt) (c .before .before .before .pre .0) in
     omega arith
 
--- src/stepping.rt:274:41
 slice-aggregate-same-bytes : tie.Need-slice-aggregate-same-bytes
 slice-aggregate-same-bytes c =
     let e : length (c .before .before .before .before .args .attempt .source) ≡ maxID = search needs in
     let l = counts-source (c .before .before .before .before .args .attempt) (c .before .before .before .before .pre .0) in
     simp length-take (omega arith)
 
--- src/stepping.rt:274:9
 same-bytes-requires : tie.Need-same-bytes-requires
 same-bytes-requires c κs = search needs
 
--- src/stepping.rt:275:9
 returns : tie.Need-returns
 returns c =
     let g = c .before .before .before .before .before .before .args in
     let e : same (destinationID (now (g .datagram))) (sourceOf (g .attempt)) ≡ false = sym (to-us (c .before)) ∙ not-true _ (c .if1 .taken) in
     rw e
 
--- src/stepping.rt:281:17
 sub-same-bytes-2 : tie.Need-sub-same-bytes-2
 sub-same-bytes-2 c = source-from (now (c .before .before .before .before .before .before .before .args .datagram)) (c .before .before .before .before .before .before .before .args .destination) (c .before .before .before .before .before .before .before .args .source) (c .before .before .before .before .before .before .before .args .list) (c .before .before .before .before .before .before .before .pre .1)
 
--- src/stepping.rt:281:17
 part-same-bytes-start-2 : tie.Need-part-same-bytes-start-2
 part-same-bytes-start-2 c = source-from (now (c .before .before .before .before .before .before .before .args .datagram)) (c .before .before .before .before .before .before .before .args .destination) (c .before .before .before .before .before .before .before .args .source) (c .before .before .before .before .before .before .before .args .list) (c .before .before .before .before .before .before .before .pre .1)
 
--- src/stepping.rt:281:17
 part-same-bytes-end-2 : tie.Need-part-same-bytes-end-2
 part-same-bytes-end-2 c = source-to (now (c .before .before .before .before .before .before .before .args .datagram)) (c .before .before .before .before .before .before .before .args .destination) (c .before .before .before .before .before .before .before .args .source) (c .before .before .before .before .before .before .before .args .list) (c .before .before .before .before .before .before .before .pre .1)
 
--- src/stepping.rt:281:52
 array-share-prefix-theirs : tie.Need-array-share-prefix-theirs
 array-share-prefix-theirs c =
     let e : length (c .before .before .before .before .before .before .before .before .args .attempt .destination) ≡ maxID = search needs in
     let l = counts-destination (c .before .before .before .before .before .before .before .before .args .attempt) (c .before .before .before .before .before .before .before .before .pre .0) in
     omega arith
 
--- src/stepping.rt:281:52
 slice-aggregate-same-bytes-2 : tie.Need-slice-aggregate-same-bytes-2
 slice-aggregate-same-bytes-2 c =
     let e : length (c .before .before .before .before .before .before .before .before .before .args .attempt .destination) ≡ maxID = search needs in
     let l = counts-destination (c .before .before .before .before .before .before .before .before .before .args .attempt) (c .before .before .before .before .before .before .before .before .before .pre .0) in
     simp length-take (omega arith)
 
--- src/stepping.rt:281:6
 same-bytes-requires-2 : tie.Need-same-bytes-requires-2
 same-bytes-requires-2 c κs = search needs
 
--- src/stepping.rt:266:1
 returns-2 : tie.Need-returns-2
 returns-2 c =
     let g = c .before .before .before .before .before .before .before .before .before .before .args in

@@ -1,3 +1,4 @@
+-- `on_datagram` meets its contract: what the header reader answers tells whether 61 applies and where the parts lie.
 use borrow.Author.Needs.{needs}
 use mathlib.Core.Path.{ap, _∙_}
 use denote.Ref.{now}
@@ -7,21 +8,13 @@ use Rattle.invariants.proofs.Negotiations.{negotiationIn, readable-by-reply, an
 use Rattle.client.proofs.Negotiating.{unreadable}
 use Rattle.client.proofs.stepping.on_datagram.Statement.{statement}
 use Rattle.client.proofs.stepping.on_datagram.Tie as tie
-use Rattle.client.proofs.stepping.on_datagram.Reads as reads
-use Rattle.client.proofs.stepping.on_datagram.Lts as lts
-use Rattle.client.proofs.stepping.keep.Reads as keep-reads
-use Rattle.client.proofs.stepping.on_negotiation.Reads as on-negotiation-reads
-use Rattle.invariants.proofs.reader.read_header.Reads as read-header-reads
 
--- src/stepping.rt:312:11
 read-header-requires : tie.Need-read-header-requires
 read-header-requires c κs = search needs
 
--- src/stepping.rt:314:13
 enum-known-destination : tie.Need-enum-known-destination
 enum-known-destination c = search needs
 
--- src/stepping.rt:317:14
 on-negotiation-requires : tie.Need-on-negotiation-requires
 on-negotiation-requires c κs =
     let a = answered-by-reply (now (c .before .before .before .before .before .args .datagram)) _ _ _ _ (c .before .before .before .read-header .ensures) (c .before .destination .given .1) in (
@@ -35,35 +28,27 @@ on-negotiation-requires c κs =
       },
     )
 
--- /work/s/target/rlib/refusals.rlib/interface/lang/src/lib.rt:26:47
 enum-told : tie.Need-enum-told
 enum-told c = search needs
 
--- src/stepping.rt:323:14
 keep-requires : tie.Need-keep-requires
 keep-requires c κs = search needs
 
--- /work/s/target/rlib/refusals.rlib/interface/lang/src/lib.rt:26:47
 enum-told-2 : tie.Need-enum-told-2
 enum-told-2 c = search needs
 
--- src/stepping.rt:327:14
 keep-requires-2 : tie.Need-keep-requires-2
 keep-requires-2 c κs = search needs
 
--- /work/s/target/rlib/refusals.rlib/interface/lang/src/lib.rt:26:47
 enum-told-3 : tie.Need-enum-told-3
 enum-told-3 c = search needs
 
--- src/stepping.rt:328:31
 keep-requires-3 : tie.Need-keep-requires-3
 keep-requires-3 c κs = search needs
 
--- src/stepping.rt:308:1
 returns : tie.Need-returns
 returns c = search needs
 
--- src/stepping.rt:308:1
 returns-2 : tie.Need-returns-2
 returns-2 c =
     let g = c .before .before .before .before .before .args in
@@ -71,7 +56,6 @@ returns-2 c =
     unreadable (g .attempt) (now (g .datagram))
     (readable-by-reply (now (g .datagram)) (c .before .before .before .read-header .result) (c .before .before .before .read-header .ensures) ∙ ap (λ (r : Header). negotiationIn (headerReply r)) (c .before .enum-told .given .1))
 
--- src/stepping.rt:308:1
 returns-3 : tie.Need-returns-3
 returns-3 c =
     let g = c .before .before .before .before .before .args in
@@ -79,7 +63,6 @@ returns-3 c =
     unreadable (g .attempt) (now (g .datagram))
     (readable-by-reply (now (g .datagram)) (c .before .before .before .read-header .result) (c .before .before .before .read-header .ensures) ∙ ap (λ (r : Header). negotiationIn (headerReply r)) (c .before .enum-told2 .given .1))
 
--- src/stepping.rt:308:1
 returns-4 : tie.Need-returns-4
 returns-4 c =
     let g = c .before .before .before .before .before .args in

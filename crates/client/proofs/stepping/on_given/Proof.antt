@@ -1,3 +1,4 @@
+-- `on_given` meets its contract: what the reader refuses ends the attempt, what it reads is judged by 72 to 75.
 use borrow.Author.Needs.{needs}
 use mathlib.Core.Path.{sym, ap, _∙_}
 use native.Mathlib.Omega.{arith}
@@ -6,56 +7,42 @@ use Rattle.information.specs.Information.{informationReply}
 use Rattle.client.proofs.Outcomes.{Given-read, given-refused, given-known, given-read}
 use Rattle.client.proofs.stepping.on_given.Statement.{statement}
 use Rattle.client.proofs.stepping.on_given.Tie as tie
-use Rattle.client.proofs.stepping.on_given.Reads as reads
-use Rattle.client.proofs.stepping.on_given.Lts as lts
-use Rattle.client.proofs.stepping.close.Reads as close-reads
-use Rattle.client.proofs.stepping.judge_outcome.Reads as judge-outcome-reads
-use Rattle.information.proofs.read_information.Reads as read-information-reads
 
 -- what the reader found
 read : (c : tie.After-known-told2) →
     Given-read (c .before .before .before .before .before .args .attempt) (c .before .before .before .before .before .args .in-use) (now (c .before .before .before .before .before .args .information)) (c .before .chosen .given .0 .0) (c .before .chosen .given .0 .1 .0)
 read c = given-known (c .before .before .before .before .before .args .attempt) (c .before .before .before .before .before .args .in-use) (now (c .before .before .before .before .before .args .information)) _ _ (sym (ap informationReply (c .before .chosen .given .1)) ∙ c .before .before .before .read-information .ensures)
 
--- src/stepping.rt:222:11
 read-information-requires : tie.Need-read-information-requires
 read-information-requires c κs = search needs
 
--- src/stepping.rt:223:30
 enum-known-refusal : tie.Need-enum-known-refusal
 enum-known-refusal c = search needs
 
--- src/stepping.rt:223:42
 close-requires : tie.Need-close-requires
 close-requires c κs = search needs
 
--- src/stepping.rt:224:29
 enum-known-chosen : tie.Need-enum-known-chosen
 enum-known-chosen c = search needs
 
--- src/stepping.rt:227:52
 sub-judge-outcome : tie.Need-sub-judge-outcome
 sub-judge-outcome c =
     let r = read c in
     rw (r .start-is, r .end-is) (r .long-enough)
 
--- src/stepping.rt:227:52
 part-judge-outcome-start : tie.Need-part-judge-outcome-start
 part-judge-outcome-start c =
     let r = read c in
     rw (r .start-is, r .end-is) (r .long-enough)
 
--- src/stepping.rt:227:52
 part-judge-outcome-end : tie.Need-part-judge-outcome-end
 part-judge-outcome-end c =
     let r = read c in
     rw (r .end-is) (omega arith)
 
--- src/stepping.rt:227:13
 judge-outcome-requires : tie.Need-judge-outcome-requires
 judge-outcome-requires c κs = search needs
 
--- src/stepping.rt:218:1
 returns : tie.Need-returns
 returns c =
     let g = c .before .before .before .before .before .before .args in
@@ -63,7 +50,6 @@ returns c =
     given-refused (g .attempt) (g .in-use) (now (g .information)) _
     (sym (ap informationReply (c .before .before .refusal .given .1)) ∙ c .before .before .before .before .read-information .ensures)
 
--- src/stepping.rt:218:1
 returns-2 : tie.Need-returns-2
 returns-2 c =
     let g = c .before .before .before .before .before .before .before .args in

@@ -1,3 +1,4 @@
+-- `on_negotiation` meets its contract: at each exit the tests on the way decide 62 to 65.
 use borrow.Author.Needs.{needs}
 use mathlib.Core.Bool.{true, false, not, _||_}
 use mathlib.Core.List.{List}
@@ -17,15 +18,6 @@ use Rattle.client.proofs.Negotiating.{list-from, list-part, too-late, n
 use Rattle.client.proofs.Steps.{counts-table}
 use Rattle.client.proofs.stepping.on_negotiation.Statement.{statement}
 use Rattle.client.proofs.stepping.on_negotiation.Tie as tie
-use Rattle.client.proofs.stepping.on_negotiation.Reads as reads
-use Rattle.client.proofs.stepping.on_negotiation.Lts as lts
-use Rattle.client.proofs.stepping.act.Reads as act-reads
-use Rattle.client.proofs.stepping.close.Reads as close-reads
-use Rattle.client.proofs.stepping.is_late.Reads as is-late-reads
-use Rattle.client.proofs.stepping.is_other_connection.Reads as is-other-connection-reads
-use Rattle.client.proofs.stepping.keep.Reads as keep-reads
-use Rattle.versions.proofs.choosing.prefer_in_bytes.Reads as prefer-in-bytes-reads
-use Rattle.versions.proofs.wire.contains_in_bytes.Reads as contains-in-bytes-reads
 
 -- what each call and test told
 late : (c : tie.After-is-late) → (not (isOpen (c .before .before .args .attempt .end)) || (c .before .before .args .attempt .acted || c .before .before .args .attempt .heard)) ≡ c .is-late .result
@@ -48,112 +40,88 @@ preferred-of : (c : tie.After-prefer-in-bytes) → entryReply (c .prefer-in-byte
 preferred-of c =
     c .prefer-in-bytes .ensures ∙ ap (λ (x : List ℕ). preferred (tableOf (c .before .before .before .before .before .before .before .before .before .before .before .before .args .attempt)) (entries x)) (list-part (now (c .before .before .before .before .before .before .before .before .before .before .before .before .args .datagram)) (c .before .before .before .before .before .before .before .before .before .before .before .before .args .destination) (c .before .before .before .before .before .before .before .before .before .before .before .before .args .source) (c .before .before .before .before .before .before .before .before .before .before .before .before .args .list) (c .before .before .before .before .before .before .before .before .before .before .before .before .pre .1))
 
--- src/stepping.rt:289:8
 is-late-requires : tie.Need-is-late-requires
 is-late-requires c κs = search needs
 
--- src/stepping.rt:290:9
 keep-requires : tie.Need-keep-requires
 keep-requires c κs = search needs
 
--- src/stepping.rt:290:9
 returns : tie.Need-returns
 returns c = c .keep .ensures ∙ too-late (c .before .before .before .before .args .attempt) (now (c .before .before .before .before .args .datagram)) (c .before .before .before .before .pre .1 .readable) (late (c .before .before) ∙ c .before .if1 .taken)
 
--- src/stepping.rt:292:8
 is-other-connection-requires : tie.Need-is-other-connection-requires
 is-other-connection-requires c κs = search needs
 
--- src/stepping.rt:293:9
 keep-requires-2 : tie.Need-keep-requires-2
 keep-requires-2 c κs = search needs
 
--- src/stepping.rt:293:9
 returns-2 : tie.Need-returns-2
 returns-2 c =
     c .keep2 .ensures ∙
     not-ours (c .before .before .before .before .before .before .args .attempt) (now (c .before .before .before .before .before .before .args .datagram)) (c .before .before .before .before .before .before .pre .1 .readable) (intime (c .before .before .before)) (sym (c .before .before .is-other-connection .ensures) ∙ c .before .if2 .taken)
 
--- src/stepping.rt:296:26
 sub-contains-in-bytes : tie.Need-sub-contains-in-bytes
 sub-contains-in-bytes c = list-from (now (c .before .before .before .before .before .args .datagram)) (c .before .before .before .before .before .args .destination) (c .before .before .before .before .before .args .source) (c .before .before .before .before .before .args .list) (c .before .before .before .before .before .pre .1)
 
--- src/stepping.rt:296:26
 part-contains-in-bytes-start : tie.Need-part-contains-in-bytes-start
 part-contains-in-bytes-start c = list-from (now (c .before .before .before .before .before .args .datagram)) (c .before .before .before .before .before .args .destination) (c .before .before .before .before .before .args .source) (c .before .before .before .before .before .args .list) (c .before .before .before .before .before .pre .1)
 
--- src/stepping.rt:296:26
 part-contains-in-bytes-end : tie.Need-part-contains-in-bytes-end
 part-contains-in-bytes-end c = search needs
 
--- src/stepping.rt:296:8
 contains-in-bytes-requires : tie.Need-contains-in-bytes-requires
 contains-in-bytes-requires c κs = search needs
 
--- src/stepping.rt:297:9
 keep-requires-3 : tie.Need-keep-requires-3
 keep-requires-3 c κs = search needs
 
--- src/stepping.rt:297:9
 returns-3 : tie.Need-returns-3
 returns-3 c =
     c .keep3 .ensures ∙
     lists-original (c .before .before .before .before .before .before .before .before .before .args .attempt) (now (c .before .before .before .before .before .before .before .before .before .args .datagram)) (c .before .before .before .before .before .before .before .before .before .pre .1 .readable) (intime (c .before .before .before .before .before .before)) (ours (c .before .before .before .before)) (sym (listed-original (c .before .before)) ∙ c .before .if3 .taken)
 
--- src/stepping.rt:301:27
 array-share-prefix-table : tie.Need-array-share-prefix-table
 array-share-prefix-table c =
     let e : length (c .before .before .before .before .before .before .before .before .before .args .attempt .table) ≡ maxTable = search needs in
     let l = counts-table (c .before .before .before .before .before .before .before .before .before .args .attempt) (c .before .before .before .before .before .before .before .before .before .pre .0) in
     omega arith
 
--- src/stepping.rt:301:27
 slice-aggregate-prefer-in-bytes : tie.Need-slice-aggregate-prefer-in-bytes
 slice-aggregate-prefer-in-bytes c =
     let e : length (c .before .before .before .before .before .before .before .before .before .before .args .attempt .table) ≡ maxTable = search needs in
     let l = counts-table (c .before .before .before .before .before .before .before .before .before .before .args .attempt) (c .before .before .before .before .before .before .before .before .before .before .pre .0) in
     simp length-take (omega arith)
 
--- src/stepping.rt:301:44
 sub-prefer-in-bytes : tie.Need-sub-prefer-in-bytes
 sub-prefer-in-bytes c = list-from (now (c .before .before .before .before .before .before .before .before .before .before .args .datagram)) (c .before .before .before .before .before .before .before .before .before .before .args .destination) (c .before .before .before .before .before .before .before .before .before .before .args .source) (c .before .before .before .before .before .before .before .before .before .before .args .list) (c .before .before .before .before .before .before .before .before .before .before .pre .1)
 
--- src/stepping.rt:301:44
 part-prefer-in-bytes-start : tie.Need-part-prefer-in-bytes-start
 part-prefer-in-bytes-start c = list-from (now (c .before .before .before .before .before .before .before .before .before .before .args .datagram)) (c .before .before .before .before .before .before .before .before .before .before .args .destination) (c .before .before .before .before .before .before .before .before .before .before .args .source) (c .before .before .before .before .before .before .before .before .before .before .args .list) (c .before .before .before .before .before .before .before .before .before .before .pre .1)
 
--- src/stepping.rt:301:44
 part-prefer-in-bytes-end : tie.Need-part-prefer-in-bytes-end
 part-prefer-in-bytes-end c = search needs
 
--- src/stepping.rt:301:11
 prefer-in-bytes-requires : tie.Need-prefer-in-bytes-requires
 prefer-in-bytes-requires c κs = search needs
 
--- src/stepping.rt:302:24
 enum-known-version : tie.Need-enum-known-version
 enum-known-version c = search needs
 
--- src/stepping.rt:302:36
 act-requires : tie.Need-act-requires
 act-requires c κs = search needs
 
--- /work/s/target/rlib/refusals.rlib/interface/lang/src/lib.rt:30:39
 enum-told : tie.Need-enum-told
 enum-told c = search needs
 
--- src/stepping.rt:303:27
 close-requires : tie.Need-close-requires
 close-requires c κs = search needs
 
--- src/stepping.rt:285:1
 returns-4 : tie.Need-returns-4
 returns-4 c =
     c .act .ensures ∙
     acts-on (c .before .before .before .before .before .before .before .before .before .before .before .before .before .before .before .before .args .attempt) (now (c .before .before .before .before .before .before .before .before .before .before .before .before .before .before .before .before .args .datagram)) (c .before .before .before .before .before .before .before .before .before .before .before .before .before .before .before .before .pre .1 .readable) (intime (c .before .before .before .before .before .before .before .before .before .before .before .before .before)) (ours (c .before .before .before .before .before .before .before .before .before .before .before)) (unlisted (c .before .before .before .before .before .before .before .before)) _
     (sym (preferred-of (c .before .before .before .before)) ∙ ap entryReply (c .before .before .version .given .1))
 
--- src/stepping.rt:285:1
 returns-5 : tie.Need-returns-5
 returns-5 c =
     c .close .ensures ∙

@@ -1,3 +1,4 @@
+-- `on_outcome` meets its contract: by the end mark, then by whether the information is given.
 use borrow.Author.Needs.{needs}
 use mathlib.Core.Path.{sym, ap, _∙_}
 use denote.Ref.{now}
@@ -8,49 +9,34 @@ use Rattle.client.specs.Step.{onOutcome}
 use Rattle.client.proofs.Outcomes.{outcome-open, outcome-ended}
 use Rattle.client.proofs.stepping.on_outcome.Statement.{statement}
 use Rattle.client.proofs.stepping.on_outcome.Tie as tie
-use Rattle.client.proofs.stepping.on_outcome.Reads as reads
-use Rattle.client.proofs.stepping.on_outcome.Lts as lts
-use Rattle.client.proofs.stepping.keep.Reads as keep-reads
-use Rattle.client.proofs.stepping.on_given.Reads as on-given-reads
-use Rattle.client.proofs.stepping.on_missing.Reads as on-missing-reads
 
--- src/stepping.rt:239:22
 enum-told : tie.Need-enum-told
 enum-told c = search needs
 
--- src/stepping.rt:240:34
 enum-told-2 : tie.Need-enum-told-2
 enum-told-2 c = search needs
 
--- src/stepping.rt:240:34
 on-missing-requires : tie.Need-on-missing-requires
 on-missing-requires c κs = search needs
 
--- src/stepping.rt:241:32
 enum-told-3 : tie.Need-enum-told-3
 enum-told-3 c = search needs
 
--- src/stepping.rt:241:32
 on-given-requires : tie.Need-on-given-requires
 on-given-requires c κs = search needs
 
--- /work/s/target/rlib/refusals.rlib/interface/lang/src/lib.rt:27:32
 enum-told-4 : tie.Need-enum-told-4
 enum-told-4 c = search needs
 
--- src/stepping.rt:243:30
 keep-requires : tie.Need-keep-requires
 keep-requires c κs = search needs
 
--- /work/s/target/rlib/refusals.rlib/interface/lang/src/lib.rt:27:32
 enum-told-5 : tie.Need-enum-told-5
 enum-told-5 c = search needs
 
--- src/stepping.rt:244:27
 keep-requires-2 : tie.Need-keep-requires-2
 keep-requires-2 c κs = search needs
 
--- src/stepping.rt:233:1
 returns : tie.Need-returns
 returns c =
     let g = c .before .before .before .before .before .before .args in
@@ -58,7 +44,6 @@ returns c =
     outcome-open (g .attempt) (g .in-use) Missing (now (g .information)) (c .before .before .before .enum-told .given .1) ∙
     ap (λ (p : Presence). onOutcome (g .attempt) (g .in-use) p (now (g .information))) (sym (c .before .enum-told2 .given .1))
 
--- src/stepping.rt:233:1
 returns-2 : tie.Need-returns-2
 returns-2 c =
     let g = c .before .before .before .before .before .before .args in
@@ -66,13 +51,11 @@ returns-2 c =
     outcome-open (g .attempt) (g .in-use) Given (now (g .information)) (c .before .before .before .enum-told .given .1) ∙
     ap (λ (p : Presence). onOutcome (g .attempt) (g .in-use) p (now (g .information))) (sym (c .before .enum-told3 .given .1))
 
--- src/stepping.rt:233:1
 returns-3 : tie.Need-returns-3
 returns-3 c =
     let g = c .before .before .before .before .args in
     c .keep .ensures ∙ outcome-ended (g .attempt) (g .in-use) (g .presence) (now (g .information)) (ap isOpen (c .before .enum-told4 .given .1))
 
--- src/stepping.rt:233:1
 returns-4 : tie.Need-returns-4
 returns-4 c =
     let g = c .before .before .before .before .args in

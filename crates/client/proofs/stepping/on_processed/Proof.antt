@@ -1,47 +1,35 @@
+-- `on_processed` meets its contract: by the end mark.
 use borrow.Author.Needs.{needs}
 use mathlib.Core.Path.{ap, _∙_}
 use Rattle.client.specs.Attempt.{isOpen}
 use Rattle.client.proofs.Steps.{processed-open, processed-ended}
 use Rattle.client.proofs.stepping.on_processed.Statement.{statement}
 use Rattle.client.proofs.stepping.on_processed.Tie as tie
-use Rattle.client.proofs.stepping.on_processed.Reads as reads
-use Rattle.client.proofs.stepping.on_processed.Lts as lts
-use Rattle.client.proofs.stepping.changed.Reads as changed-reads
-use Rattle.client.proofs.stepping.keep.Reads as keep-reads
 
--- src/stepping.rt:120:17
 enum-told : tie.Need-enum-told
 enum-told c = search needs
 
--- src/stepping.rt:120:17
 changed-requires : tie.Need-changed-requires
 changed-requires c κs = search needs
 
--- /work/s/target/rlib/refusals.rlib/interface/lang/src/lib.rt:27:32
 enum-told-2 : tie.Need-enum-told-2
 enum-told-2 c = search needs
 
--- src/stepping.rt:126:30
 keep-requires : tie.Need-keep-requires
 keep-requires c κs = search needs
 
--- /work/s/target/rlib/refusals.rlib/interface/lang/src/lib.rt:27:32
 enum-told-3 : tie.Need-enum-told-3
 enum-told-3 c = search needs
 
--- src/stepping.rt:127:27
 keep-requires-2 : tie.Need-keep-requires-2
 keep-requires-2 c κs = search needs
 
--- src/stepping.rt:114:1
 returns : tie.Need-returns
 returns c = rw (c .changed .ensures) (processed-open _ (c .before .enum-told .given .1))
 
--- src/stepping.rt:114:1
 returns-2 : tie.Need-returns-2
 returns-2 c = c .keep .ensures ∙ processed-ended _ (ap isOpen (c .before .enum-told2 .given .1))
 
--- src/stepping.rt:114:1
 returns-3 : tie.Need-returns-3
 returns-3 c = c .keep2 .ensures ∙ processed-ended _ (ap isOpen (c .before .enum-told3 .given .1))
 
