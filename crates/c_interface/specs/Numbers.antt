@@ -1,0 +1,105 @@
+-- Answers as numbers. A refusal is its number, 0 is none; a value goes into a lent number, which a refusal leaves.
+use Prim.Native.Nat.{ℕ}
+use mathlib.Core.Bool.{Bool, true, false, cond}
+use mathlib.Core.List.{List, [], _∷_}
+use mathlib.Core.Option.{Option, Option.none, Option.some}
+use lib.Dec.{eqb}
+use Rattle.refusals.specs.Reply.{Reply, Reply.refused, Reply.answered}
+use Rattle.refusals.specs.declared.Call.{Call}
+use Rattle.refusals.specs.declared.Call.the-variants.{Reading, Writing}
+use Rattle.refusals.specs.declared.Close.{Close}
+use Rattle.refusals.specs.declared.Close.the-variants.{Nothing, With}
+use Rattle.versions.specs.declared.Span.{Span}
+use Rattle.invariants.specs.Header.{Form, Form.long, Form.short, Form.versionNegotiation}
+use Rattle.information.specs.Information.{Found}
+use Rattle.information.specs.declared.Presence.{Presence}
+use Rattle.information.specs.declared.Presence.the-variants.{Missing, Given}
+use Rattle.information.specs.declared.Sender.{Sender}
+use Rattle.server.specs.FirstFlight.{Act, Act.negotiate, Act.use-version}
+use Rattle.information.specs.declared.Sender.the-variants.{Client, Server}
+
+-- The number for what no caller may hand over
+abbrev pub notValid : ℕ
+notValid = 255
+
+abbrev pub interfaceVersion : ℕ
+interfaceVersion = 1
+
+abbrev pub closeNumber : Close → ℕ
+closeNumber Nothing = 0
+closeNumber (With code) = code
+
+-- A test as a number
+abbrev pub flag : Bool → ℕ
+flag false = 0
+flag true = 1
+
+-- The number of a refusal, 0 where there is none
+abbrev pub refusalOf : {A : Type 0} → Reply A → ℕ
+refusalOf (refused n c) = n
+refusalOf (answered a) = 0
+
+-- What a lent place holds after an answer: what is read off its value, or, after a refusal, what it held
+abbrev pub leaving : {A B : Type 0} → (A → B) → Reply A → B → B
+leaving value (refused n c) found = found
+leaving value (answered a) found = value a
+
+abbrev pub itself : ℕ → ℕ
+itself n = n
+
+abbrev pub isThere : Option ℕ → ℕ
+isThere none = 0
+isThere (some v) = 1
+
+abbrev pub valueOr : Option ℕ → ℕ → ℕ
+valueOr none found = found
+valueOr (some v) found = v
+
+-- Forms: 1 long, 2 short, 3 Version Negotiation
+abbrev pub formNumber : Form → ℕ
+formNumber (long v d s r) = 1
+formNumber (short d r) = 2
+formNumber (versionNegotiation d s l) = 3
+
+-- The version of a form, 0 where it has none
+abbrev pub formVersion : Form → ℕ
+formVersion (long v d s r) = v
+formVersion (short d r) = 0
+formVersion (versionNegotiation d s l) = 0
+
+-- Where the destination ID, the source ID and the rest lie: start and end of each; a short form has no source ID
+abbrev pub formPlaces : Form → List ℕ
+formPlaces (long v d s r) = d .start ∷ d .end ∷ s .start ∷ s .end ∷ r .start ∷ r .end ∷ []
+formPlaces (short d r) = d .start ∷ d .end ∷ 0 ∷ 0 ∷ r .start ∷ r .end ∷ []
+formPlaces (versionNegotiation d s l) = d .start ∷ d .end ∷ s .start ∷ s .end ∷ l .start ∷ l .end ∷ []
+
+-- Senders: 0 a client, 1 a server
+unfoldable pub senderOf : ℕ → Option Sender
+senderOf n = cond (eqb n 0) (some Client) (cond (eqb n 1) (some Server) none)
+
+-- Whether Version Information is given: 0 missing, 1 given
+unfoldable pub presenceOf : ℕ → Option Presence
+presenceOf n = cond (eqb n 0) (some Missing) (cond (eqb n 1) (some Given) none)
+
+-- Kinds of call: 0 one that reads (a reader, the server's choice, an event), else a writer
+abbrev pub callOf : ℕ → Call
+callOf n = cond (eqb n 0) Reading Writing
+
+-- An answer for a kind that is known, 255 for one that is not
+abbrev pub forKnown : {K A : Type 0} → (K → Reply A) → Option K → Reply A
+forKnown answer none = refused notValid Nothing
+forKnown answer (some k) = answer k
+
+abbrev pub chosenIn : Found → ℕ
+chosenIn found = found .chosen
+
+abbrev pub startIn : Found → ℕ
+startIn found = found .available .start
+
+abbrev pub endIn : Found → ℕ
+endIn found = found .available .end
+
+-- What the server does, as a version: 0 to negotiate
+abbrev pub actNumber : Act → ℕ
+actNumber negotiate = 0
+actNumber (use-version v) = v
