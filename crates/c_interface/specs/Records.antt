@@ -119,7 +119,7 @@ abbrev pub recordSize : ℕ
 recordSize = 272
 
 abbrev pub shownLeft : RecordAndRefusal → Left
-shownLeft s = record { left = s .record; refusal = s .refusal }
+shownLeft s = record { left = s .attempt; refusal = s .refusal }
 
 -- The values that `qv_known_record` fills in
 unfoldable pub knownRecord : Record

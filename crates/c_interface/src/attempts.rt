@@ -81,51 +81,51 @@ fn mark_fits(mark: u32, value: u32) -> bool
 }
 
 // Whether counts, flags and marks are those that an attempt has.
-fn is_record(record: Record) -> bool
-    ensures { λ r. ⌜ r ≡ isRecord record ⌝ }
+fn is_record(held: Record) -> bool
+    ensures { λ r. ⌜ r ≡ isRecord held ⌝ }
 {
-    if MAX_TABLE < record.table_len as usize {
+    if MAX_TABLE < held.table_len as usize {
         return false;
     }
-    if MAX_ID < record.destination_len as usize {
+    if MAX_ID < held.destination_len as usize {
         return false;
     }
-    if MAX_ID < record.source_len as usize {
+    if MAX_ID < held.source_len as usize {
         return false;
     }
-    if 1 < record.acted {
+    if 1 < held.acted {
         return false;
     }
-    if 1 < record.heard {
+    if 1 < held.heard {
         return false;
     }
-    if !mark_fits(record.end_mark, record.end_value) {
+    if !mark_fits(held.end_mark, held.end_value) {
         return false;
     }
-    record.unused == 0
+    held.unused == 0
 }
 
-fn decode(record: Record) -> Attempt
-    requires { ⌜ isRecord record ≡ true ⌝ }
-    ensures { λ r. ⌜ r ≡ attemptOf record ⌝ }
+fn decode(held: Record) -> Attempt
+    requires { ⌜ isRecord held ≡ true ⌝ }
+    ensures { λ r. ⌜ r ≡ attemptOf held ⌝ }
 {
-    let table = record.table;
-    let rows = record.rows;
-    let destination = record.destination;
-    let source = record.source;
-    let end = end_of(record.end_mark, record.end_value);
+    let table = held.table;
+    let rows = held.rows;
+    let destination = held.destination;
+    let source = held.source;
+    let end = end_of(held.end_mark, held.end_value);
     Attempt {
         table,
-        table_len: record.table_len as usize,
+        table_len: held.table_len as usize,
         rows,
         destination,
-        destination_len: record.destination_len as usize,
+        destination_len: held.destination_len as usize,
         source,
-        source_len: record.source_len as usize,
-        original: record.original,
-        attempted: record.attempted,
-        acted: record.acted == 1,
-        heard: record.heard == 1,
+        source_len: held.source_len as usize,
+        original: held.original,
+        attempted: held.attempted,
+        acted: held.acted == 1,
+        heard: held.heard == 1,
         end,
     }
 }
@@ -174,52 +174,52 @@ fn refusal_number(answer: Answer) -> u32
 }
 
 // One event on a record that is one.
-fn apply(record: Record, event: Event, bytes: &[u8]) -> RecordAndRefusal
-    requires { ⌜ isRecord record ≡ true ⌝ }
-    ensures { λ r. ⌜ shownLeft r ≡ leftAfter (stepOf (attemptOf record) event (now (bytes .entry))) ⌝ }
+fn apply(held: Record, event: Event, bytes: &[u8]) -> RecordAndRefusal
+    requires { ⌜ isRecord held ≡ true ⌝ }
+    ensures { λ r. ⌜ shownLeft r ≡ leftAfter (stepOf (attemptOf held) event (now (bytes .entry))) ⌝ }
 {
-    let stepped = step_any(decode(record), event, bytes);
+    let stepped = step_any(decode(held), event, bytes);
     let attempt = stepped.attempt;
     let answer = stepped.answer;
     let left = encode(attempt);
     RecordAndRefusal {
-        record: left,
+        attempt: left,
         refusal: refusal_number(answer),
     }
 }
 
 // One event, by value: the record that it leaves, and its refusal.
-pub(crate) fn step_record(record: Record, kind: u32, value: u32, bytes: &[u8]) -> RecordAndRefusal
-    ensures { λ r. ⌜ shownLeft r ≡ stepRecord record kind value (now (bytes .entry)) ⌝ }
+pub(crate) fn step_record(held: Record, kind: u32, value: u32, bytes: &[u8]) -> RecordAndRefusal
+    ensures { λ r. ⌜ shownLeft r ≡ stepRecord held kind value (now (bytes .entry)) ⌝ }
 {
-    if !is_record(record) {
+    if !is_record(held) {
         return RecordAndRefusal {
-            record,
+            attempt: held,
             refusal: NOT_VALID,
         };
     }
     if kind == 0 {
-        return apply(record, Event::Datagram, bytes);
+        return apply(held, Event::Datagram, bytes);
     }
     if kind == 1 {
-        return apply(record, Event::PacketProcessed, bytes);
+        return apply(held, Event::PacketProcessed, bytes);
     }
     if kind == 2 {
         let given = Event::Outcome {
             in_use: value,
             information: Presence::Given,
         };
-        return apply(record, given, bytes);
+        return apply(held, given, bytes);
     }
     if kind == 3 {
         let missing = Event::Outcome {
             in_use: value,
             information: Presence::Missing,
         };
-        return apply(record, missing, bytes);
+        return apply(held, missing, bytes);
     }
     RecordAndRefusal {
-        record,
+        attempt: held,
         refusal: NOT_VALID,
     }
 }
@@ -247,9 +247,9 @@ pub extern "C" fn qv_start(
     let started = start(table, pairs, original, destination, source);
     let attempt = started.attempt;
     let answer = started.answer;
-    let record = encode(attempt);
+    let opened = encode(attempt);
     RecordAndRefusal {
-        record,
+        attempt: opened,
         refusal: start_number(answer),
     }
 }
@@ -257,15 +257,15 @@ pub extern "C" fn qv_start(
 // The own list of an attempt, for the client's Version Information: its versions and their count. Refusal: 255 for a
 // record that no attempt has, which leaves both as found.
 #[no_mangle]
-pub extern "C" fn qv_own_list(record: Record, versions: &mut [u32; MAX_TABLE], count: &mut usize) -> u32
-    ensures answer { λ r. ⌜ r ≡ cond (isRecord record) 0 notValid ⌝ }
-    ensures list { λ _. ⌜ now (versions .exit) ≡ cond (isRecord record) (padded maxTable (ownOf (attemptOf record))) (now (versions .entry)) ⌝ }
-    ensures counted { λ _. ⌜ now (count .exit) ≡ cond (isRecord record) (length (ownOf (attemptOf record))) (now (count .entry)) ⌝ }
+pub extern "C" fn qv_own_list(held: Record, versions: &mut [u32; MAX_TABLE], count: &mut usize) -> u32
+    ensures answer { λ r. ⌜ r ≡ cond (isRecord held) 0 notValid ⌝ }
+    ensures list { λ _. ⌜ now (versions .exit) ≡ cond (isRecord held) (padded maxTable (ownOf (attemptOf held))) (now (versions .entry)) ⌝ }
+    ensures counted { λ _. ⌜ now (count .exit) ≡ cond (isRecord held) (length (ownOf (attemptOf held))) (now (count .entry)) ⌝ }
 {
-    if !is_record(record) {
+    if !is_record(held) {
         return NOT_VALID;
     }
-    let own = own_list(decode(record));
+    let own = own_list(decode(held));
     let list = own.versions;
     *versions = list;
     *count = own.count;

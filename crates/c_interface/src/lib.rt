@@ -6,6 +6,8 @@ ghost use Rattle.refusals.specs.Close.{closeOf};
 ghost use Rattle.c_interface.specs.Numbers.{closeNumber, callOf, interfaceVersion};
 
 pub mod attempts; // the attempt: start, events, own list
+pub mod choices; // tables, pairs and choices
+pub mod wire; // headers, packets, Version Information
 
 use client::MAX_ID;
 use refusals::Call;
@@ -48,7 +50,7 @@ pub struct Record {
 // A record with the number of a refusal, 0 for none.
 #[repr(C)]
 pub struct RecordAndRefusal {
-    pub record: Record,
+    pub attempt: Record,
     pub refusal: u32,
 }
 

@@ -1,0 +1,155 @@
+// Headers, Version Negotiation packets and Version Information as numbers and buffers.
+ghost use mathlib.Core.Path.{_≡_};
+ghost use lib.ListN.{length};
+ghost use Rattle.refusals.specs.Written.{counted, leaves};
+ghost use Rattle.invariants.specs.Header.{readHeader};
+ghost use Rattle.invariants.specs.Packet.{negotiationPacket};
+ghost use Rattle.information.specs.Information.{readInformation, informationToWrite};
+ghost use Rattle.c_interface.specs.Numbers.{refusalOf, leaving, itself, formNumber, formVersion, formPlaces, senderOf, forKnown, chosenIn, startIn, endIn};
+
+use crate::NOT_VALID;
+use information::Information;
+use information::Sender;
+use information::read_information;
+use information::write_information;
+use invariants::Header;
+use invariants::reader::read_header;
+use invariants::writer::write_version_negotiation;
+use refusals::Written;
+
+// Reads a header. Refusals: 11, 12, 13, which leave all as found; else 0. `form` is 1 long, 2 short, 3 Version
+// Negotiation; `version` is a long form's, else 0; `places` are start and end of the destination ID, the source ID
+// (0 and 0 for a short form) and the rest. `told` is the length of a short form's destination ID.
+#[no_mangle]
+pub extern "C" fn qv_read_header(
+    datagram: &[u8],
+    told: usize,
+    form: &mut u32,
+    version: &mut u32,
+    places: &mut [usize; 6],
+) -> u32
+    ensures answer { λ r. ⌜ r ≡ refusalOf (readHeader (now (datagram .entry)) told) ⌝ }
+    ensures form { λ _. ⌜ now (form .exit) ≡ leaving formNumber (readHeader (now (datagram .entry)) told) (now (form .entry)) ⌝ }
+    ensures version { λ _. ⌜ now (version .exit) ≡ leaving formVersion (readHeader (now (datagram .entry)) told) (now (version .entry)) ⌝ }
+    ensures places { λ _. ⌜ now (places .exit) ≡ leaving formPlaces (readHeader (now (datagram .entry)) told) (now (places .entry)) ⌝ }
+{
+    match read_header(datagram, told) {
+        Header::Refused(refusal) => refusal.0 as u32,
+        Header::Long {
+            version: number,
+            destination,
+            source,
+            rest,
+        } => {
+            *form = 1;
+            *version = number;
+            *places = [destination.start, destination.end, source.start, source.end, rest.start, rest.end];
+            0
+        }
+        Header::Short { destination, rest } => {
+            *form = 2;
+            *version = 0;
+            *places = [destination.start, destination.end, 0, 0, rest.start, rest.end];
+            0
+        }
+        Header::VersionNegotiation {
+            destination,
+            source,
+            list,
+        } => {
+            *form = 3;
+            *version = 0;
+            *places = [destination.start, destination.end, source.start, source.end, list.start, list.end];
+            0
+        }
+    }
+}
+
+// Writes the Version Negotiation packet that answers a received datagram. Refusals: 11, 12, 21 to 26, which leave
+// buffer and count as found; else 0, and `count` bytes of the buffer are written.
+#[no_mangle]
+pub extern "C" fn qv_write_version_negotiation(
+    received: &[u8],
+    offered: &[u32],
+    unused_bits: u8,
+    buffer: &mut [u8],
+    count: &mut usize,
+) -> u32
+    ensures answer { λ r. ⌜ r ≡ refusalOf (negotiationPacket (now (received .entry)) (now (offered .entry)) «unused_bits» (length (now (buffer .entry)))) ⌝ }
+    ensures left { λ _. ⌜ now (buffer .exit) ≡ leaves (negotiationPacket (now (received .entry)) (now (offered .entry)) «unused_bits» (length (now (buffer .entry)))) (now (buffer .entry)) ⌝ }
+    ensures counted { λ _. ⌜ now (count .exit) ≡ leaving length (negotiationPacket (now (received .entry)) (now (offered .entry)) «unused_bits» (length (now (buffer .entry)))) (now (count .entry)) ⌝ }
+{
+    match write_version_negotiation(received, offered, unused_bits, buffer) {
+        Written::Refused(refusal) => refusal.0 as u32,
+        Written::Count(written) => {
+            *count = written;
+            0
+        }
+    }
+}
+
+// Reads Version Information; `sender` is 0 for a client's, 1 for a server's. Refusals: 255 (another sender), 31 to 36,
+// which leave all as found; else 0, the Chosen Version, and where the Available Versions lie.
+#[no_mangle]
+pub extern "C" fn qv_read_information(
+    sender: u32,
+    bytes: &[u8],
+    chosen: &mut u32,
+    start: &mut usize,
+    end: &mut usize,
+) -> u32
+    ensures answer { λ r. ⌜ r ≡ refusalOf (forKnown (λ s. readInformation s (now (bytes .entry))) (senderOf sender)) ⌝ }
+    ensures chosen { λ _. ⌜ now (chosen .exit) ≡ leaving chosenIn (forKnown (λ s. readInformation s (now (bytes .entry))) (senderOf sender)) (now (chosen .entry)) ⌝ }
+    ensures start { λ _. ⌜ now (start .exit) ≡ leaving startIn (forKnown (λ s. readInformation s (now (bytes .entry))) (senderOf sender)) (now (start .entry)) ⌝ }
+    ensures end { λ _. ⌜ now (end .exit) ≡ leaving endIn (forKnown (λ s. readInformation s (now (bytes .entry))) (senderOf sender)) (now (end .entry)) ⌝ }
+{
+    if 1 < sender {
+        return NOT_VALID;
+    }
+    let mut known = Sender::Client;
+    if sender == 1 {
+        known = Sender::Server;
+    }
+    match read_information(known, bytes) {
+        Information::Refused(refusal) => refusal.0 as u32,
+        Information::Read {
+            chosen: version,
+            available,
+        } => {
+            *chosen = version;
+            *start = available.start;
+            *end = available.end;
+            0
+        }
+    }
+}
+
+// Writes Version Information. Refusals: 255 (another sender), 33 to 37, which leave buffer and count as found; else 0,
+// and `count` bytes of the buffer are written.
+#[no_mangle]
+pub extern "C" fn qv_write_information(
+    sender: u32,
+    chosen: u32,
+    available: &[u32],
+    buffer: &mut [u8],
+    count: &mut usize,
+) -> u32
+    ensures answer { λ r. ⌜ r ≡ refusalOf (forKnown (λ s. informationToWrite s chosen (now (available .entry)) (length (now (buffer .entry)))) (senderOf sender)) ⌝ }
+    ensures left { λ _. ⌜ now (buffer .exit) ≡ leaves (forKnown (λ s. informationToWrite s chosen (now (available .entry)) (length (now (buffer .entry)))) (senderOf sender)) (now (buffer .entry)) ⌝ }
+    ensures counted { λ _. ⌜ now (count .exit) ≡ leaving length (forKnown (λ s. informationToWrite s chosen (now (available .entry)) (length (now (buffer .entry)))) (senderOf sender)) (now (count .entry)) ⌝ }
+{
+    if 1 < sender {
+        return NOT_VALID;
+    }
+    let mut known = Sender::Client;
+    if sender == 1 {
+        known = Sender::Server;
+    }
+    match write_information(known, chosen, available, buffer) {
+        Written::Refused(refusal) => refusal.0 as u32,
+        Written::Count(written) => {
+            *count = written;
+            0
+        }
+    }
+}
