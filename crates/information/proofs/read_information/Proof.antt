@@ -6,6 +6,7 @@ use mathlib.Core.Path.{_≡_, sym}
 use native.Mathlib.Omega.{arith}
 use lib.Dec.{eqb}
 use lib.ListN.{length}
+use borrow.Author.Needs.{needs}
 use borrow.Author.Tests.{lt-ltb, le-ltb, eq-eqb, ne-eqb}
 use denote.Ref.{now}
 use Rattle.refusals.specs.Reply.{Reply.answered}
@@ -16,7 +17,6 @@ use Rattle.versions.specs.Wire.{versionBytes}
 use Rattle.versions.proofs.Lists.{part-rest}
 use Rattle.information.specs.Information.{readInformation, isClient, chosenOf, availableOf, senderRules, foundIn}
 use Rattle.information.specs.Limits.{maxInformation}
-use borrow.Author.Needs.{needs}
 use Rattle.information.proofs.read_information.Statement.{statement}
 use Rattle.information.proofs.read_information.Tie as tie
 

@@ -3,8 +3,9 @@ use Prim.Native.Nat.{_<_, _≤_}
 use mathlib.Core.Bool.{not, _&&_}
 use mathlib.Core.List.{[], _∷_}
 use mathlib.Core.Path.{_≡_, refl, ap}
-use borrow.Author.Tests.{lt-ltb, le-ltb, eq-eqb, ne-eqb}
 use native.Mathlib.Omega.{arith}
+use borrow.Author.Needs.{needs}
+use borrow.Author.Tests.{lt-ltb, le-ltb, eq-eqb, ne-eqb}
 use lib.Dec.{ltb}
 use lib.ListN.{length}
 use denote.Ref.{now}
@@ -13,9 +14,8 @@ use Rattle.refusals.specs.Rule.{Rule._when_, judged}
 use Rattle.refusals.specs.declared.Call.the-variants.{Writing}
 use Rattle.versions.specs.Table.{elem}
 use Rattle.information.specs.Information.{isClient, informationToWrite, informationBytes, informationLength}
-use Rattle.information.proofs.Bytes.{put-counted}
 use Rattle.information.specs.Limits.{maxAvailable}
-use borrow.Author.Needs.{needs}
+use Rattle.information.proofs.Bytes.{put-counted}
 use Rattle.information.proofs.write_information.Statement.{statement}
 use Rattle.information.proofs.write_information.Tie as tie
 
