@@ -4,7 +4,7 @@ use mathlib.Core.Bool.{true, false, not, _&&_}
 use mathlib.Core.List.{List, [], _∷_, _++_}
 use mathlib.Core.Path.{_≡_, refl}
 use native.Mathlib.Omega.{arith}
-use lib.Dec.{eqb, ltb}
+use lib.Dec.{eqb}
 use lib.ListN.{length}
 use borrow.Author.Tests.{ltb-false, eqb-true, le-ltb, eq-eqb, not-false}
 use Rattle.refusals.specs.Reply.{Reply.answered}
@@ -37,12 +37,14 @@ pub record Kept (sender : Sender) (chosen : ℕ) (available : List ℕ) : Type 0
   pub none-zero : elem 0 available ≡ false
   pub among : (isClient sender && not (elem chosen available)) ≡ false
 
+-- 31 to 33 do not apply to the bytes, nor do 34 to 36
 pub record ReadKept (sender : Sender) (bytes : List ℕ) : Type 0 where
   pub least : versionBytes ≤ length bytes
   pub fours : length bytes % versionBytes ≡ 0
   pub most : length bytes ≤ maxInformation
   pub others : Kept sender (chosenOf bytes) (availableOf bytes)
 
+-- Neither 33 nor 37 applies to what is to be written, nor do 34 to 36
 pub record WriteKept (sender : Sender) (chosen : ℕ) (available : List ℕ) (room : ℕ) : Type 0 where
   pub few : length available ≤ maxAvailable
   pub others : Kept sender chosen available

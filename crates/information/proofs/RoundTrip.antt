@@ -1,6 +1,6 @@
 -- Version Information there and back, for one and the same sender: what is written is read, what is read is written
 -- again as the same bytes, and equal values have equal bytes.
-use Prim.Native.Nat.{ℕ, _+_, _*_, _/_, _^_, _<_, _≤_}
+use Prim.Native.Nat.{ℕ, _+_, _/_, _^_, _<_, _≤_}
 use mathlib.Core.Bool.{true}
 use mathlib.Core.List.{List}
 use mathlib.Core.Path.{_≡_, sym, ap, _∙_}
@@ -14,7 +14,7 @@ use Rattle.information.specs.Information.{Found, chosenOf, availableOf, 
 use Rattle.information.specs.Limits.{maxInformation}
 use Rattle.information.specs.declared.Sender.{Sender}
 use Rattle.information.proofs.Bytes.{length-information}
-use Rattle.information.proofs.Kept.{Kept, ReadKept, WriteKept, read-kept, read-answers, write-kept, write-answers}
+use Rattle.information.proofs.Kept.{ReadKept, read-kept, read-answers, write-kept, write-answers}
 
 -- The bytes from a sender are read, as this Chosen Version and these Available Versions
 pub record ReadAs (sender : Sender) (bytes : List ℕ) (chosen : ℕ) (available : List ℕ) : Type 0 where
@@ -34,7 +34,7 @@ unfolding listBytes
 bytes-again {sender} {bytes} kept below =
     ap listBytes (sym (entries-step bytes 0 (kept .least))) ∙ listBytes-entries bytes (kept .fours) below
 
--- (1) What is written is read: the same Chosen Version and the same Available Versions, in their order
+-- What is written is read: the same Chosen Version and the same Available Versions, in their order
 pub written-read : (sender : Sender) (chosen : ℕ) (available : List ℕ) (room : ℕ) (bytes : List ℕ)
     → chosen < 2 ^ 32 → allBelow (2 ^ 32) available ≡ true
     → informationToWrite sender chosen available room ≡ answered bytes
@@ -57,7 +57,7 @@ written-read sender chosen available room bytes chosen-below below e =
       same-available = versions-found (informationBytes chosen available) ∙ same-available;
     })
 
--- (2) What is read is written again, into every buffer with room for it, and as the same bytes
+-- What is read is written again, into every buffer with room for it, and as the same bytes
 pub read-written : (sender : Sender) (bytes : List ℕ) (found : Found) (room : ℕ)
     → allBelow 256 bytes ≡ true → length bytes ≤ room
     → readInformation sender bytes ≡ answered found
@@ -74,7 +74,7 @@ read-written sender bytes found room below fits e =
     }) in
     rw (← read .1, versions-found bytes) (again ∙ ap answered (bytes-again kept below))
 
--- (3) Equal values have equal bytes, whoever sent them
+-- Equal values have equal bytes, whoever sent them
 pub equal-bytes : (sender other : Sender) (a b : List ℕ) (chosen : ℕ) (available : List ℕ)
     → allBelow 256 a ≡ true → allBelow 256 b ≡ true
     → ReadAs sender a chosen available → ReadAs other b chosen available → a ≡ b
@@ -90,7 +90,7 @@ equal-bytes sender other a b chosen available below-a below-b read-a read-b =
         sym (versions-found bytes) ∙ ap (λ (f : Found). versionsIn bytes (f .available)) (p .1) ∙ read .same-available in
         rw (← c, ← v) (bytes-again (p .0) below)
 
--- (4) What is written has at most 1,024 bytes
+-- What is written has at most 1,024 bytes
 pub information-at-most : (sender : Sender) (chosen : ℕ) (available : List ℕ) (room : ℕ) (bytes : List ℕ)
     → informationToWrite sender chosen available room ≡ answered bytes → length bytes ≤ maxInformation
 information-at-most sender chosen available room bytes e =

@@ -1,6 +1,6 @@
 -- `put_information`: one list put at the front and one behind it are the bytes of the information.
-use Rattle.information.proofs.Bytes.{put-both}
 use borrow.Author.Needs.{needs}
+use Rattle.information.proofs.Bytes.{put-both}
 use Rattle.information.proofs.put_information.Statement.{statement}
 use Rattle.information.proofs.put_information.Tie as tie
 
@@ -26,7 +26,8 @@ same-length : tie.Need-same-length
 same-length c = search needs
 
 returns : tie.Need-returns
-returns c = put-both _ _ _ _ _ (c .before .before .before .before .before .before .before .before .before .before .before .pre)
+returns c =
+    put-both _ _ _ _ _ (c .before .before .before .before .before .before .before .before .before .before .before .pre)
     (c .before .before .before .before .before .before .put-list .ensures .1)
     (c .before .before .put-list2 .ensures .1)
 

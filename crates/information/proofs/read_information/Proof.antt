@@ -1,36 +1,48 @@
 -- `read_information`: the tests in the order of the code are the rules in the order of their numbers.
+use Prim.Native.Nat.{_%_, _<_, _≤_}
 use mathlib.Core.Bool.{not, _&&_}
 use mathlib.Core.List.{[], _∷_}
 use mathlib.Core.Path.{_≡_, sym}
+use native.Mathlib.Omega.{arith}
 use lib.Dec.{eqb}
+use lib.ListN.{length}
+use borrow.Author.Needs.{needs}
 use borrow.Author.Tests.{lt-ltb, le-ltb, eq-eqb, ne-eqb}
 use denote.Ref.{now}
 use Rattle.refusals.specs.Reply.{Reply.answered}
 use Rattle.refusals.specs.Rule.{Rule._when_, judged}
 use Rattle.refusals.specs.declared.Call.the-variants.{Reading}
 use Rattle.versions.specs.Table.{elem}
+use Rattle.versions.specs.Wire.{versionBytes}
 use Rattle.versions.proofs.Lists.{part-rest}
 use Rattle.information.specs.Information.{readInformation, isClient, chosenOf, availableOf, senderRules, foundIn}
-use borrow.Author.Needs.{needs}
+use Rattle.information.specs.Limits.{maxInformation}
 use Rattle.information.proofs.read_information.Statement.{statement}
 use Rattle.information.proofs.read_information.Tie as tie
 
 returns : tie.Need-returns
 unfolding readInformation
-returns c = rw (lt-ltb _ _ (c .if1 .taken))
+returns c =
+    let bytes = now (c .before .before .args .bytes) in
+    let short : length bytes < versionBytes = omega arith in
+    rw (lt-ltb _ _ short)
 
 returns-2 : tie.Need-returns-2
 unfolding readInformation
-returns-2 c = rw (le-ltb _ _ (c .before .if1 .left), ne-eqb _ _ (c .if2 .taken))
+returns-2 c =
+    let bytes = now (c .before .before .before .args .bytes) in
+    let least : versionBytes ≤ length bytes = omega arith in
+    let left-over : length bytes % versionBytes ≡ 0 → ⊥ = λ e. omega arith in
+    rw (le-ltb _ _ least, ne-eqb _ _ left-over)
 
 returns-3 : tie.Need-returns-3
 unfolding readInformation
 returns-3 c =
-    rw (
-      le-ltb _ _ (c .before .before .if1 .left),
-      eq-eqb _ _ (c .before .if2 .left),
-      lt-ltb _ _ (c .if3 .taken),
-    )
+    let bytes = now (c .before .before .before .before .args .bytes) in
+    let least : versionBytes ≤ length bytes = omega arith in
+    let fours : length bytes % versionBytes ≡ 0 = omega arith in
+    let long : maxInformation < length bytes = omega arith in
+    rw (le-ltb _ _ least, eq-eqb _ _ fours, lt-ltb _ _ long)
 
 shared-slice-read-big-endian : tie.Need-shared-slice-read-big-endian
 shared-slice-read-big-endian c = search needs
@@ -60,13 +72,11 @@ after-33 :
     (answered (foundIn bytes))
 unfolding readInformation
 after-33 c =
-    let form = c .before .before .before .before .before in
-    rw (
-      le-ltb _ _ (form .before .before .if1 .left),
-      eq-eqb _ _ (form .before .if2 .left),
-      le-ltb _ _ (form .if3 .left),
-      ← c .big-endian .ensures,
-    )
+    let bytes = now (c .before .before .before .before .before .before .before .before .before .args .bytes) in
+    let least : versionBytes ≤ length bytes = omega arith in
+    let fours : length bytes % versionBytes ≡ 0 = omega arith in
+    let most : length bytes ≤ maxInformation = omega arith in
+    rw (le-ltb _ _ least, eq-eqb _ _ fours, le-ltb _ _ most, ← c .big-endian .ensures)
 
 returns-4 : tie.Need-returns-4
 returns-4 c = rw (after-33 (c .before), eq-eqb _ _ (c .if4 .taken))

@@ -1,7 +1,10 @@
 -- `write_information`: the tests in the order of the code are the rules in the order of their numbers.
+use Prim.Native.Nat.{_<_, _≤_}
 use mathlib.Core.Bool.{not, _&&_}
 use mathlib.Core.List.{[], _∷_}
 use mathlib.Core.Path.{_≡_, refl, ap}
+use native.Mathlib.Omega.{arith}
+use borrow.Author.Needs.{needs}
 use borrow.Author.Tests.{lt-ltb, le-ltb, eq-eqb, ne-eqb}
 use lib.Dec.{ltb}
 use lib.ListN.{length}
@@ -11,18 +14,22 @@ use Rattle.refusals.specs.Rule.{Rule._when_, judged}
 use Rattle.refusals.specs.declared.Call.the-variants.{Writing}
 use Rattle.versions.specs.Table.{elem}
 use Rattle.information.specs.Information.{isClient, informationToWrite, informationBytes, informationLength}
+use Rattle.information.specs.Limits.{maxAvailable}
 use Rattle.information.proofs.Bytes.{put-counted}
-use borrow.Author.Needs.{needs}
 use Rattle.information.proofs.write_information.Statement.{statement}
 use Rattle.information.proofs.write_information.Tie as tie
 
 returns : tie.Need-returns
 unfolding informationToWrite
-returns c = rw (lt-ltb _ _ (c .if1 .taken)) (refl, refl)
+returns c =
+    let many : maxAvailable < length (now (c .before .before .before .args .available)) = omega arith in
+    rw (lt-ltb _ _ many) (refl, refl)
 
 returns-2 : tie.Need-returns-2
 unfolding informationToWrite
-returns-2 c = rw (le-ltb _ _ (c .before .if1 .left), eq-eqb _ _ (c .if2 .taken)) (refl, refl)
+returns-2 c =
+    let few : length (now (c .before .before .before .before .args .available)) ≤ maxAvailable = omega arith in
+    rw (le-ltb _ _ few, eq-eqb _ _ (c .if2 .taken)) (refl, refl)
 
 contains-requires : tie.Need-contains-requires
 contains-requires c κs = search needs
@@ -42,11 +49,8 @@ after-34 :
     (answered (informationBytes (args .chosen) available))
 unfolding informationToWrite
 after-34 c =
-    rw (
-      le-ltb _ _ (c .before .before .if1 .left),
-      ne-eqb _ _ (c .before .if2 .left),
-      ← c .contains .ensures,
-    )
+    let few : length (now (c .before .before .before .before .before .args .available)) ≤ maxAvailable = omega arith in
+    rw (le-ltb _ _ few, ne-eqb _ _ (c .before .if2 .left), ← c .contains .ensures)
 
 returns-3 : tie.Need-returns-3
 returns-3 c = rw (after-34 (c .before), c .if3 .taken) (refl, refl)
@@ -77,7 +81,9 @@ add-count c = search needs
 
 returns-5 : tie.Need-returns-5
 returns-5 c =
-    rw (after-35 (c .before .before), c .before .if4 .left, lt-ltb _ _ (c .if5 .taken)) (refl, refl)
+    let args = c .before .before .before .before .before .before .before .before .before .args in
+    let short : length (now (args .buffer)) < informationLength (now (args .available)) = omega arith in
+    rw (after-35 (c .before .before), c .before .if4 .left, lt-ltb _ _ short) (refl, refl)
 
 put-information-requires : tie.Need-put-information-requires
 put-information-requires c κs = search needs
@@ -87,10 +93,11 @@ same-length c = search needs
 
 returns-6 : tie.Need-returns-6
 returns-6 c =
-    let room = c .before .before .before .before in
+    let judged-36 = c .before .before .before .before .before in
+    let args = judged-36 .before .before .before .before .before .before .before .before .args in
+    let fits : informationLength (now (args .available)) ≤ length (now (args .buffer)) = omega arith in
     let put = put-counted _ _ _ _ (c .before .before .put-information .ensures) in
-    rw (after-35 (room .before .before), room .before .if4 .left, le-ltb _ _ (room .if5 .left))
-    (ap answered (put .0), put .1)
+    rw (after-35 (judged-36 .before), judged-36 .if4 .left, le-ltb _ _ fits) (ap answered (put .0), put .1)
 
 pub write-information-spec : {M : Type 1} → statement M
 write-information-spec =
