@@ -1,6 +1,7 @@
 // RFC 8999, the version-independent properties of QUIC: the header reader and the Version Negotiation
 // writer. Every function answers for every input.
 mod fields; // the fields of a long form
+pub mod writer; // the Version Negotiation packet that answers a datagram
 
 use refusals::Refusal;
 use versions::Span;
