@@ -1,45 +1,49 @@
+-- `put_bytes`: after i bytes the buffer begins with them, and goes on as it was.
+use Prim.Native.Nat.{_-_, _≤_}
+use mathlib.Core.List.{_++_}
+use mathlib.Core.Path.{_≡_, refl, sym, _∙_, ap}
+use native.Mathlib.Omega.{arith}
+use lib.ListN.{length, take, drop, set, length-set}
+use denote.Ref.{now}
+use Rattle.invariants.proofs.Places.{copy-step, copied}
 use Rattle.invariants.proofs.writer.put_bytes.Statement.{statement}
 use Rattle.invariants.proofs.writer.put_bytes.Tie as tie
-use Rattle.invariants.proofs.writer.put_bytes.Reads as reads
-use Rattle.invariants.proofs.writer.put_bytes.Lts as lts
 
 abbrev Inv-loop : tie.InvT-loop
-Inv-loop from buffer₀ i₀ buffer i = ?
+Inv-loop from buffer₀ i₀ buffer i =
+    (i ≤ length from) × (length buffer ≡ length buffer₀) × (buffer ≡ take i from ++ drop i buffer₀)
 
 abbrev μ-loop : tie.MeasureT-loop
-μ-loop from buffer₀ i₀ buffer i = ?
+μ-loop from buffer₀ i₀ buffer i = length from - i
 
--- src/writer.rt:142:5
 loop-holds : tie.Need-loop-holds Inv-loop μ-loop
-loop-holds c = ?
+loop-holds c = (omega arith, refl, refl)
 
--- src/writer.rt:143:21
 shared-slice-read-buffer : tie.Need-shared-slice-read-buffer Inv-loop μ-loop
-shared-slice-read-buffer c = ?
+shared-slice-read-buffer c = omega arith
 
--- src/writer.rt:143:9
 slice-write-buffer : tie.Need-slice-write-buffer Inv-loop μ-loop
-slice-write-buffer c = ?
+slice-write-buffer c = omega arith
 
--- src/writer.rt:144:9
 add-i : tie.Need-add-i Inv-loop μ-loop
-add-i c = ?
+add-i c = omega arith
 
--- src/writer.rt:142:5
 loop-less : tie.Need-loop-less Inv-loop μ-loop
-loop-less c = ?
+loop-less c = omega arith
 
--- src/writer.rt:142:5
 loop-again : tie.Need-loop-again Inv-loop μ-loop
-loop-again c = ?
+loop-again c =
+    let here = c .before .before in
+    let s = now (here .before .args .from) in
+    let d = now (here .before .args .buffer) in
+    let step = copy-step s d (here .loop .i) (omega arith) (omega arith) in
+    (omega arith, length-set (here .loop .buffer) _ _ ∙ here .loop .inv .1, rw (here .loop .inv .2) step)
 
--- src/writer.rt:137:1
 same-length : tie.Need-same-length Inv-loop μ-loop
-same-length c = ?
+same-length c = omega arith
 
--- src/writer.rt:137:1
 returns : tie.Need-returns Inv-loop μ-loop
-returns c = ?
+returns c = copied _ _ _ (c .before .loop .i) (omega arith) (c .before .loop .inv .2)
 
 pub put-bytes-spec : {M : Type 1} → statement M
 put-bytes-spec =
