@@ -1,17 +1,36 @@
 -- `judge_offer` meets its contract: each return is decided by the tests on the way.
 use borrow.Author.Needs.{needs}
 use borrow.Author.Tests.{lt-ltb, le-ltb, not-true, not-false}
-use mathlib.Core.Path.{sym, _∙_}
+use mathlib.Core.Path.{_≡_, sym, ap, _∙_}
 use denote.Ref.{now}
+use mathlib.Core.Bool.{true}
+use Prim.Native.Nat.{_+_, _*_}
+use lib.ListN.{length}
+use Rattle.refusals.specs.Reply.{Reply.answered}
+use Rattle.versions.specs.Table.{elem, tableKeepsRule}
+use Rattle.versions.specs.Wire.{versionBytes}
+use Rattle.invariants.specs.Header.{versionOf}
+use Rattle.invariants.specs.Packet.{packetFor}
 use Rattle.invariants.proofs.Packets.{length-packetFor}
 use Rattle.invariants.proofs.writer.judge_offer.Statement.{statement}
 use Rattle.invariants.proofs.writer.judge_offer.Tie as tie
+
+-- What the tests on the way say of the definitions
+
+kept : (c : tie.Else1) → tableKeepsRule (now (c .before .before .before .before .args .offered)) ≡ true
+kept c = sym (c .before .is-table .ensures) ∙ not-false _ (c .if1 .left)
+
+offers :
+    (c : tie.After-contains) →
+    let args = c .before .before .before .before .before .before .args in
+    elem (versionOf (now (args .received))) (now (args .offered)) ≡ c .contains .result
+offers c = rw (sym (c .before .version-of .ensures)) (sym (c .contains .ensures))
 
 is-table-requires : tie.Need-is-table-requires
 is-table-requires c κs = search needs
 
 returns : tie.Need-returns
-returns c = ?
+returns c = rw (sym (c .before .is-table .ensures) ∙ not-true _ (c .if1 .taken))
 
 version-of-requires : tie.Need-version-of-requires
 version-of-requires c κs = search needs
@@ -20,10 +39,15 @@ contains-requires : tie.Need-contains-requires
 contains-requires c κs = search needs
 
 returns-2 : tie.Need-returns-2
-returns-2 c = ?
+returns-2 c = rw (kept (c .before .before .before), offers (c .before) ∙ c .if2 .taken)
 
 returns-3 : tie.Need-returns-3
-returns-3 c = ?
+returns-3 c =
+    rw (
+      kept (c .before .before .before .before),
+      offers (c .before .before) ∙ c .before .if2 .left,
+      lt-ltb _ _ (c .if3 .taken),
+    )
 
 destination-length-requires : tie.Need-destination-length-requires
 destination-length-requires c κs = search needs
@@ -44,10 +68,40 @@ add-count-3 : tie.Need-add-count-3
 add-count-3 c = search needs
 
 returns-4 : tie.Need-returns-4
-returns-4 c = ?
+returns-4 c =
+    rw (
+      kept (c .before .before .before .before .before .before .before),
+      offers (c .before .before .before .before .before) ∙ c .before .before .before .before .if2 .left,
+      le-ltb _ _ (c .before .before .before .if3 .left),
+      sym (c .before .source-length .ensures .0),
+      sym (c .before .before .destination-length .ensures .0),
+      lt-ltb _ _ (c .if4 .taken),
+    )
+
+-- The count is the packet's length
+counts :
+    (c : tie.After-source-length) →
+    let args = c .before .before .before .before .before .before .before .before .before .before .args in
+    7 + (c .before .destination-length .result + (c .source-length .result + versionBytes * length (now (args .offered)))) ≡
+    length (packetFor (now (args .received)) (now (args .offered)) (args .unused-bits))
+counts c =
+    let start = c .before .before .before .before .before .before .before .before .before .before in
+    rw (
+      length-packetFor (now (start .args .received)) (now (start .args .offered)) (start .args .unused-bits) (start .pre),
+      sym (c .source-length .ensures .0),
+      sym (c .before .destination-length .ensures .0),
+    )
 
 returns-5 : tie.Need-returns-5
-returns-5 c = ?
+returns-5 c =
+    rw (
+      kept (c .before .before .before .before .before .before .before),
+      offers (c .before .before .before .before .before) ∙ c .before .before .before .before .if2 .left,
+      le-ltb _ _ (c .before .before .before .if3 .left),
+      sym (c .before .source-length .ensures .0),
+      sym (c .before .before .destination-length .ensures .0),
+      le-ltb _ _ (c .if4 .left),
+    ) (ap answered (counts (c .before)))
 
 pub judge-offer-spec : {M : Type 1} → statement M
 judge-offer-spec =

@@ -1,133 +1,116 @@
+-- `put_packet` meets its contract: the front, the IDs and the list are put one behind the other.
 use borrow.Author.Needs.{needs}
+use mathlib.Core.Path.{_∙_, ap}
+use lib.ListN.{length}
+use denote.Ref.{now}
+use Rattle.invariants.specs.Packet.{packetFor}
+use Rattle.invariants.proofs.Packets.{put-parts, length-packetFor}
+use Rattle.invariants.proofs.Places.{length-put}
 use Rattle.invariants.proofs.writer.put_packet.Statement.{statement}
 use Rattle.invariants.proofs.writer.put_packet.Tie as tie
-use Rattle.invariants.proofs.writer.put_packet.Reads as reads
-use Rattle.invariants.proofs.writer.put_packet.Lts as lts
-use Rattle.invariants.proofs.fields.destination_length.Reads as destination-length-reads
-use Rattle.invariants.proofs.fields.source_length.Reads as source-length-reads
-use Rattle.invariants.proofs.writer.put_front.Reads as put-front-reads
-use Rattle.invariants.proofs.writer.put_id.Reads as put-id-reads
-use Rattle.versions.proofs.wire.put_list.Reads as put-list-reads
 
--- src/writer.rt:101:9
 destination-length-requires : tie.Need-destination-length-requires
 destination-length-requires c κs = search needs
 
--- src/writer.rt:102:9
 source-length-requires : tie.Need-source-length-requires
 source-length-requires c κs = search needs
 
--- src/writer.rt:103:24
 add-source-start : tie.Need-add-source-start
 add-source-start c = search needs
 
--- src/writer.rt:104:22
 add-source-end : tie.Need-add-source-end
 add-source-end c = search needs
 
--- src/writer.rt:105:27
 add-destination-end : tie.Need-add-destination-end
 add-destination-end c = search needs
 
--- src/writer.rt:106:18
 add-second : tie.Need-add-second
 add-second c = search needs
 
--- src/writer.rt:107:16
 add-list : tie.Need-add-list
 add-list c = search needs
 
--- src/writer.rt:107:16
 add-list-2 : tie.Need-add-list-2
 add-list-2 c = search needs
 
--- src/writer.rt:108:15
 add-put-front : tie.Need-add-put-front
 add-put-front c = search needs
 
--- src/writer.rt:108:5
 put-front-requires : tie.Need-put-front-requires
 put-front-requires c κs = search needs
 
--- src/writer.rt:109:12
 sub-put-id : tie.Need-sub-put-id
 sub-put-id c = search needs
 
--- src/writer.rt:109:12
 part-put-id-start : tie.Need-part-put-id-start
 part-put-id-start c = search needs
 
--- src/writer.rt:109:12
 part-put-id-end : tie.Need-part-put-id-end
 part-put-id-end c = search needs
 
--- src/writer.rt:109:49
 sub-put-id-2 : tie.Need-sub-put-id-2
 sub-put-id-2 c = search needs
 
--- src/writer.rt:109:49
 part-put-id-start-2 : tie.Need-part-put-id-start-2
 part-put-id-start-2 c = search needs
 
--- src/writer.rt:109:49
 part-put-id-end-2 : tie.Need-part-put-id-end-2
 part-put-id-end-2 c = search needs
 
--- src/writer.rt:109:5
 put-id-requires : tie.Need-put-id-requires
 put-id-requires c κs = search needs
 
--- src/writer.rt:110:12
 sub-put-id-3 : tie.Need-sub-put-id-3
 sub-put-id-3 c = search needs
 
--- src/writer.rt:110:12
 part-put-id-start-3 : tie.Need-part-put-id-start-3
 part-put-id-start-3 c = search needs
 
--- src/writer.rt:110:12
 part-put-id-end-3 : tie.Need-part-put-id-end-3
 part-put-id-end-3 c = search needs
 
--- src/writer.rt:110:43
 sub-put-id-4 : tie.Need-sub-put-id-4
 sub-put-id-4 c = search needs
 
--- src/writer.rt:110:43
 part-put-id-start-4 : tie.Need-part-put-id-start-4
 part-put-id-start-4 c = search needs
 
--- src/writer.rt:110:43
 part-put-id-end-4 : tie.Need-part-put-id-end-4
 part-put-id-end-4 c = search needs
 
--- src/writer.rt:110:5
 put-id-requires-2 : tie.Need-put-id-requires-2
 put-id-requires-2 c κs = search needs
 
--- src/writer.rt:111:23
 sub-put-list : tie.Need-sub-put-list
 sub-put-list c = search needs
 
--- src/writer.rt:111:23
 part-put-list-start : tie.Need-part-put-list-start
 part-put-list-start c = search needs
 
--- src/writer.rt:111:23
 part-put-list-end : tie.Need-part-put-list-end
 part-put-list-end c = search needs
 
--- src/writer.rt:111:5
 put-list-requires : tie.Need-put-list-requires
 put-list-requires c κs = search needs
 
--- src/writer.rt:95:1
-same-length : tie.Need-same-length
-same-length c = ?
-
--- src/writer.rt:95:1
 returns : tie.Need-returns
-returns c = ?
+returns c =
+    let front = c .before .before .before .before .before .before .before .before .before .before .before .before .before .before .before .before in
+    let source = front .before .before in
+    let start = source .before .before .before .before .before in
+    put-parts (now (start .args .received)) (now (start .args .offered)) (now (start .args .buffer)) (start .args .unused-bits)
+    (source .before .destination-length .result) (source .source-length .result) (front .put-front .last .1 .0)
+    (c .before .before .before .before .before .before .before .before .before .before .before .put-id .last .1 .0) (c .before .before .before .before .before .before .put-id2 .last .1 .0) (c .before .before .put-list .last .1 .0)
+    (source .before .destination-length .ensures .0) (source .source-length .ensures .0) (start .pre .0)
+    (start .pre .1 .1) (front .put-front .ensures) (c .before .before .before .before .before .before .before .before .before .before .before .put-id .ensures) (c .before .before .before .before .before .before .put-id2 .ensures)
+    (c .before .before .put-list .ensures .1)
+
+same-length : tie.Need-same-length
+same-length c =
+    let start = c .before .before .before .before .before .before .before .before .before .before .before .before .before .before .before .before .before .before .before .before .before .before .before in
+    let packet = packetFor (now (start .args .received)) (now (start .args .offered)) (start .args .unused-bits) in
+    let l = length-packetFor (now (start .args .received)) (now (start .args .offered)) (start .args .unused-bits) (start .pre .0) in
+    ap length (returns c) ∙ length-put packet (now (start .args .buffer)) (rw l (start .pre .1 .1))
 
 pub put-packet-spec : {M : Type 1} → statement M
 put-packet-spec =

@@ -1,37 +1,60 @@
+-- `write_version_negotiation` meets its contract: a refusal leaves the buffer, a count goes with the packet.
 use borrow.Author.Needs.{needs}
+use Prim.Native.Nat.{ℕ}
+use mathlib.Core.List.{List}
+use mathlib.Core.Path.{_≡_, sym, ap, _∙_}
+use denote.Ref.{now}
+use lib.ListN.{length}
+use Rattle.refusals.specs.Reply.{Reply, Reply.answered}
+use Rattle.refusals.specs.Written.{leaves}
+use Rattle.invariants.specs.Packet.{packetFor, negotiationPacket}
+use Rattle.invariants.proofs.Packets.{Judged, count-judged, refused-leaves}
 use Rattle.invariants.proofs.writer.write_version_negotiation.Statement.{statement}
 use Rattle.invariants.proofs.writer.write_version_negotiation.Tie as tie
-use Rattle.invariants.proofs.writer.write_version_negotiation.Reads as reads
-use Rattle.invariants.proofs.writer.write_version_negotiation.Lts as lts
-use Rattle.invariants.proofs.writer.judge.Reads as judge-reads
-use Rattle.invariants.proofs.writer.put_packet.Reads as put-packet-reads
 
--- src/writer.rt:38:9
 judge-requires : tie.Need-judge-requires
 judge-requires c κs = search needs
 
 enum-told : tie.Need-enum-told
 enum-told c = search needs
 
--- src/writer.rt:41:73
 enum-told-2 : tie.Need-enum-told-2
 enum-told-2 c = search needs
 
--- src/writer.rt:41:30
+-- What has to be written
+abbrev owed : tie.Start → Reply (List ℕ)
+owed c =
+    negotiationPacket (now (c .args .received)) (now (c .args .offered)) (c .args .unused-bits)
+    (length (now (c .args .buffer)))
+
+-- What a count of `judge` tells
+told :
+    (c : tie.After-enum-told2) →
+    let start = c .before .before .before .before .before .before in
+    let received = now (start .args .received) in
+    let offered = now (start .args .offered) in
+    Judged received offered (start .args .unused-bits) (length (now (start .args .buffer)))
+    × (owed start ≡ answered (packetFor received offered (start .args .unused-bits)))
+told c = count-judged _ _ _ _ _ (c .enum-told2 .given .1) (c .before .before .judge .ensures)
+
 put-packet-requires : tie.Need-put-packet-requires
-put-packet-requires c κs = ?
+put-packet-requires c κs =
+    let judged = told (c .before) .0 in
+    (judged .complete, (judged .bits-fit, judged .room-fits))
 
--- src/writer.rt:34:1
 returns : tie.Need-returns
-returns c = ?
+returns c =
+    let judge = c .before .before .judge in
+    (judge .ensures, refused-leaves (owed (c .before .before .before .before .before .before)) _ _ (c .enum-told .given .1) (judge .ensures))
 
--- src/writer.rt:34:1
 same-length : tie.Need-same-length
 same-length c = search needs
 
--- src/writer.rt:34:1
 returns-2 : tie.Need-returns-2
-returns-2 c = ?
+returns-2 c =
+    let here = c .before .before .before .before in
+    let buffer = now (here .before .before .before .before .before .before .args .buffer) in
+    (here .before .before .judge .ensures, c .before .before .put-packet .ensures ∙ ap (λ reply. leaves reply buffer) (sym (told here .1)))
 
 pub write-version-negotiation-spec : {M : Type 1} → statement M
 write-version-negotiation-spec =
