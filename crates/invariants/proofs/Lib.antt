@@ -1,2 +1,3 @@
 pub mod Packets
 pub mod Places
+pub mod Writing

@@ -1,27 +1,27 @@
 -- The Version Negotiation packet: its length, and that the header reader reads back from it what was put in.
-use Prim.Native.Nat.{ℕ, suc, _+_, _-_, _*_, _^_, _≤_, _<_}
+use Prim.Native.Nat.{ℕ, zero, suc, _+_, _-_, _*_, _%_, _^_, _≤_, _<_}
 use mathlib.Core.Bool.{Bool, true, false, not, _&&_, _||_, true≢false, false≢true}
-use mathlib.Core.List.{List, [], _∷_, _++_, append-assoc}
+use mathlib.Core.List.{List, [], _∷_, _++_}
 use mathlib.Core.Path.{_≡_, refl, sym, ap, _∙_}
 use native.Mathlib.Omega.{arith}
-use lib.Dec.{eqb, ltb}
+use lib.Dec.{eqb, ltb, leb}
 use lib.ListN.{length, take, drop, getD, length-append}
-use borrow.Author.Tests.{ltb-true, ltb-false, eqb-true, eqb-false, not-true, not-false}
+use lib.Seq.{getD-drop, getD-at, drop-drop, drop-at, take-at}
+use borrow.Author.Tests.{ltb-false, eqb-false, leb-true, not-true, not-false, le-ltb, le-leb, eq-eqb, ne-eqb}
 use Rattle.refusals.specs.Reply.{Reply, Reply.refused, Reply.answered, refuse}
-use Rattle.refusals.specs.Rule.{Rule, Rule._when_, judged, clear}
-use Rattle.refusals.specs.Written.{writtenReply, counted, leaves}
+use Rattle.refusals.specs.Rule.{Rule, Rule._when_, clear}
 use Rattle.refusals.specs.declared.Call.the-variants.{Writing}
-use Rattle.refusals.specs.declared.Refusal.{Refusal}
-use Rattle.refusals.specs.declared.Written.{Written}
-use Rattle.refusals.specs.declared.Written.the-variants.{Refused, Count}
 use Rattle.refusals.proofs.Rules.{both-true, lowest-clear, lowest-applies}
-use Rattle.versions.specs.Table.{elem, tableKeepsRule}
-use Rattle.versions.specs.Wire.{bytesOf, listBytes, versionBytes, afterPut}
-use Rattle.versions.proofs.Entries.{length-listBytes, afterPut-room}
-use Rattle.invariants.specs.Header.{isLong, versionOf, destinationLength, sourceLength, destinationID, sourceID, sourceStart, restStart, longTruncated}
-use Rattle.invariants.specs.Limits.{maxDatagram, maxUnusedBits}
+use Rattle.versions.specs.Limits.{maxTable}
+use Rattle.versions.specs.Table.{elem, entriesKeepRule, tableKeepsRule}
+use Rattle.versions.specs.Version.{reserved, usable}
+use Rattle.versions.specs.Wire.{bytesOf, entries, listBytes, versionBytes}
+use Rattle.versions.specs.declared.Span.{Span}
+use Rattle.versions.proofs.Entries.{allBelow, allBelow-head, entries-listBytes, length-listBytes}
+use Rattle.invariants.specs.Header.{Form, Form.versionNegotiation, span, isLong, versionOf, destinationLength, sourceLength, destinationID, sourceID, sourceStart, restStart, restOf, listed, longTruncated, notWhole, readHeader}
+use Rattle.invariants.specs.Limits.{maxConnectionID, maxDatagram, maxUnusedBits}
 use Rattle.invariants.specs.Packet.{packetLength, packetFor, packetRules, negotiationPacket}
-use Rattle.invariants.proofs.Places.{partFrom, putFrom, over, length-part, length-put, length-partFrom}
+use Rattle.invariants.proofs.Places.{length-part}
 
 -- ---- lengths
 
@@ -31,6 +31,7 @@ length-destinationID r h = length-part r 6 (destinationLength r) (omega arith)
 pub length-sourceID : (r : List ℕ) → restStart r ≤ length r → length (sourceID r) ≡ sourceLength r
 length-sourceID r h = length-part r (sourceStart r) (sourceLength r) (omega arith)
 
+-- Document 01: "7 plus both ID lengths plus 4 per entry"
 pub length-packetFor : (r o : List ℕ) (bits : ℕ) → restStart r ≤ length r
     → length (packetFor r o bits) ≡ packetLength r o
 unfolding packetFor
@@ -41,6 +42,10 @@ length-packetFor r o bits h =
     let e = length-append (sourceID r) ((destinationLength r ∷ destinationID r) ++ listBytes o) in
     let f = length-append (destinationID r) (listBytes o) in
     omega arith
+
+pub packet-length : (r o : List ℕ) (bits : ℕ) → longTruncated r ≡ false
+    → length (packetFor r o bits) ≡ packetLength r o
+packet-length r o bits e = length-packetFor r o bits (ltb-false (length r) (restStart r) e)
 
 -- ---- what holds where a packet is written
 
@@ -87,14 +92,15 @@ clear-judged r o bits room e =
       room-fits = ltb-false room (packetLength r o) (p26 .0)
     }
 
-isAnswered : {A : Type 0} → Reply A → Bool
+-- Whether a reply is no refusal
+abbrev pub isAnswered : {A : Type 0} → Reply A → Bool
 isAnswered (refused n c) = false
 isAnswered (answered x) = true
 
 -- Where bytes are written they are the packet's, and no refusal applies
 pub negotiated : (r o : List ℕ) (bits room : ℕ) (bytes : List ℕ) → negotiationPacket r o bits room ≡ answered bytes
     → Judged r o bits room × (bytes ≡ packetFor r o bits)
-unfolding negotiationPacket isAnswered
+unfolding negotiationPacket
 negotiated r o bits room bytes h = go (clear (packetRules r o bits room)) refl
   where
     rules : List Rule
@@ -110,75 +116,108 @@ negotiated r o bits room bytes h = go (clear (packetRules r o bits room)) refl
         (lowest-applies (refuse Writing) packet (λ reply. reply ≡ answered bytes → ⊥)
         (λ n q. false≢true (ap isAnswered q)) rules e h)
 
--- ---- the writer's answer and what it leaves
+-- Document 01: "at most 581"
+abbrev pub maxPacket : ℕ
+maxPacket = 7 + (maxConnectionID + (maxConnectionID + versionBytes * maxTable))
 
--- A count goes with the packet's bytes
-pub count-judged : (r o : List ℕ) (bits room : ℕ) (w : Written) {n : ℕ} → w ≡ Count n
-    → writtenReply w ≡ counted (negotiationPacket r o bits room)
-    → Judged r o bits room × (negotiationPacket r o bits room ≡ answered (packetFor r o bits))
-unfolding isAnswered
-count-judged r o bits room w {n} e h = go (negotiationPacket r o bits room) refl (ap writtenReply (sym e) ∙ h)
-  where
-    go : (reply : Reply (List ℕ)) → negotiationPacket r o bits room ≡ reply → answered n ≡ counted reply
-        → Judged r o bits room × (negotiationPacket r o bits room ≡ answered (packetFor r o bits))
-    go (refused m c) e q = absurd (true≢false (ap isAnswered q))
-    go (answered bytes) e q =
-        let p = negotiated r o bits room bytes e in
-        (p .0, e ∙ ap answered (p .1))
+pub maxPacket-is : maxPacket ≡ 581
+maxPacket-is = refl
 
--- A refusal leaves the buffer as found
-pub refused-leaves : (reply : Reply (List ℕ)) (buffer : List ℕ) (w : Written) {x : Refusal} → w ≡ Refused x
-    → writtenReply w ≡ counted reply → buffer ≡ leaves reply buffer
-unfolding isAnswered
-refused-leaves (refused m c) buffer w e h = refl
-refused-leaves (answered bytes) buffer w e h =
-    absurd (false≢true (ap isAnswered (ap writtenReply (sym e) ∙ h)))
+getD-below : (bound i : ℕ) (s : List ℕ) → 0 < bound → allBelow bound s ≡ true → getD s i 0 < bound
+getD-below bound i [] h e = h
+getD-below bound zero (x ∷ xs) h e = allBelow-head bound x xs e .0
+getD-below bound (suc i) (x ∷ xs) h e = getD-below bound i xs h (allBelow-head bound x xs e .1)
 
--- The packet put part by part: the front, the IDs, the list
-pub put-parts : (r o found : List ℕ) (bits dl sl : ℕ) (b₁ p₁ p₂ p₃ : List ℕ)
-    → dl ≡ destinationLength r → sl ≡ sourceLength r → restStart r ≤ length r → packetLength r o ≤ length found
-    → let source = take (7 + dl + sl - (7 + dl)) (drop (7 + dl) r) in
-    let destination = take (6 + dl - 6) (drop 6 r) in
-    let b₂ = putFrom 5 b₁ p₁ in
-    let b₃ = putFrom (6 + sl) b₂ p₂ in
-    b₁ ≡ ((128 + bits) ∷ bytesOf 0) ++ drop 5 found
-    → p₁ ≡ (length source ∷ source) ++ drop (suc (length source)) (partFrom 5 b₁)
-    → p₂ ≡ (length destination ∷ destination) ++ drop (suc (length destination)) (partFrom (6 + sl) b₂)
-    → p₃ ≡ afterPut o (partFrom (7 + sl + dl) b₃)
-    → putFrom (7 + sl + dl) b₃ p₃ ≡ packetFor r o bits ++ drop (length (packetFor r o bits)) found
-unfolding packetFor
-put-parts r o found bits dl sl b₁ p₁ p₂ p₃ ed es complete room e₁ q₁ q₂ q₃ =
-    let front : List ℕ = (128 + bits) ∷ bytesOf 0 in
-    let S : List ℕ = sourceLength r ∷ sourceID r in
-    let D : List ℕ = destinationLength r ∷ destinationID r in
-    let L : List ℕ = listBytes o in
-    let source : List ℕ = take (7 + dl + sl - (7 + dl)) (drop (7 + dl) r) in
-    let destination : List ℕ = take (6 + dl - 6) (drop 6 r) in
-    let b₂ = putFrom 5 b₁ p₁ in
-    let b₃ = putFrom (6 + sl) b₂ p₂ in
-    let k : ℕ = 7 + sl + dl in
-    let ls = length-sourceID r complete in
-    let ld = length-destinationID r complete in
-    let ll = length-listBytes o in
-    let z : 7 + dl + sl - (7 + dl) ≡ sourceLength r = omega arith in
-    let y : 7 + dl ≡ sourceStart r = omega arith in
-    let x : 6 + dl - 6 ≡ destinationLength r = omega arith in
-    let s : source ≡ sourceID r = rw (z, y) in
-    let d : destination ≡ destinationID r = rw x in
-    let is : _≡_ {A = List ℕ} (length source ∷ source) S = rw (s, ls) in
-    let id : _≡_ {A = List ℕ} (length destination ∷ destination) D = rw (d, ld) in
-    let o₁ : b₂ ≡ (front ++ S) ++ drop (length (front ++ S)) found =
-    over front S found b₁ p₁ 5 refl e₁ (q₁ ∙ ap (λ (l : List ℕ). l ++ drop (length l) (partFrom 5 b₁)) is) in
-    let n₂ : 6 + sl ≡ length (front ++ S) = omega arith in
-    let o₂ : b₃ ≡ ((front ++ S) ++ D) ++ drop (length ((front ++ S) ++ D)) found =
-    over (front ++ S) D found b₂ p₂ (6 + sl) n₂ o₁
-    (q₂ ∙ ap (λ (l : List ℕ). l ++ drop (length l) (partFrom (6 + sl) b₂)) id) in
-    let a = length-append (front ++ S) D in
-    let n₃ : k ≡ length ((front ++ S) ++ D) = omega arith in
-    let same : length b₃ ≡ length found = ap length o₂ ∙ length-put ((front ++ S) ++ D) found (omega arith) in
-    let free : versionBytes * length o ≤ length (partFrom k b₃) = rw (length-partFrom k b₃, same) (omega arith) in
-    let r₃ : p₃ ≡ L ++ drop (length L) (partFrom k b₃) = q₃ ∙ afterPut-room o (partFrom k b₃) free ∙ rw (sym ll) in
-    let o₃ = over ((front ++ S) ++ D) L found b₃ p₃ k n₃ o₂ r₃ in
-    let whole : ((front ++ S) ++ D) ++ L ≡ front ++ (S ++ (D ++ L)) =
-    append-assoc (front ++ S) D L ∙ append-assoc front S (D ++ L) in
-    o₃ ∙ ap (λ (l : List ℕ). l ++ drop (length l) found) whole
+-- "A table of versions has 1 to 16 entries"
+pub table-length : (o : List ℕ) → tableKeepsRule o ≡ true → (1 ≤ length o) × (length o ≤ maxTable)
+unfolding tableKeepsRule
+table-length o e =
+    let p = both-true (leb 1 (length o)) (leb (length o) maxTable && entriesKeepRule o) e in
+    let q = both-true (leb (length o) maxTable) (entriesKeepRule o) (p .1) in
+    (leb-true 1 (length o) (p .0), leb-true (length o) maxTable (q .0))
+
+packet-at-most : (r o : List ℕ) (bits room : ℕ) → Judged r o bits room → allBelow 256 r ≡ true
+    → length (packetFor r o bits) ≤ maxPacket
+packet-at-most r o bits room j e =
+    let d = getD-below 256 5 r (omega arith) e in
+    let s = getD-below 256 (6 + destinationLength r) r (omega arith) e in
+    let t = table-length o (j .table) in
+    rw (length-packetFor r o bits (j .complete)) (omega arith)
+
+pub count-at-most : (r o : List ℕ) (bits room : ℕ) (bytes : List ℕ)
+    → negotiationPacket r o bits room ≡ answered bytes → allBelow 256 r ≡ true → length bytes ≤ maxPacket
+count-at-most r o bits room bytes h e =
+    let p = negotiated r o bits room bytes h in
+    rw (p .1) (packet-at-most r o bits room (p .0) e)
+
+-- ---- the reader reads back what the writer put in
+
+-- The bytes that a span shows
+abbrev pub bytesIn : Span → List ℕ → List ℕ
+bytesIn part bytes = take (part .end - part .start) (drop (part .start) bytes)
+
+-- Whatever length is told, the bytes read as a Version Negotiation packet in which the IDs are those of the
+-- received datagram, swapped, and the list is the offered table in its order
+pub record ReadBack (received offered bytes : List ℕ) : Type 0 where
+  pub destination : Span
+  pub source : Span
+  pub list : Span
+  pub reads : (told : ℕ) → readHeader bytes told ≡ answered (versionNegotiation destination source list)
+  pub destination-bytes : bytesIn destination bytes ≡ sourceID received
+  pub source-bytes : bytesIn source bytes ≡ destinationID received
+  pub list-bytes : entries (bytesIn list bytes) ≡ offered
+  pub destination-swapped : destinationID bytes ≡ sourceID received
+  pub source-swapped : sourceID bytes ≡ destinationID received
+  pub list-kept : listed bytes ≡ offered
+
+-- The header reader on a Version Negotiation packet that none of its refusals meets
+reads-negotiation : (bytes : List ℕ) (told : ℕ) → length bytes ≤ maxDatagram → isLong bytes ≡ true
+    → versionOf bytes ≡ 0 → restStart bytes ≤ length bytes → notWhole (restOf bytes) ≡ false
+    → readHeader bytes told
+    ≡ answered (versionNegotiation (span 6 (6 + destinationLength bytes)) (span (sourceStart bytes) (restStart bytes))
+    (span (restStart bytes) (length bytes)))
+unfolding readHeader
+reads-negotiation bytes told limit long version complete whole =
+    let some : length bytes ≡ 0 → ⊥ = λ e. absurd (omega arith) in
+    rw (le-ltb _ _ limit, ne-eqb _ _ some, long, le-ltb _ _ complete, eq-eqb _ _ version, whole)
+
+-- Where the fields of the packet lie
+module _ (r o : List ℕ) (bits : ℕ) (complete : restStart r ≤ length r) where
+  packet-destinationLength : destinationLength (packetFor r o bits) ≡ sourceLength r
+  unfolding packetFor
+  packet-destinationLength = refl
+
+  packet-sourceLength : sourceLength (packetFor r o bits) ≡ destinationLength r
+  unfolding packetFor
+  packet-sourceLength =
+      sym (getD-drop 6 (packetFor r o bits) (sourceLength r) 0) ∙
+      getD-at (sourceID r) (destinationLength r) (destinationID r ++ listBytes o) 0 (sourceLength r)
+      (length-sourceID r complete)
+
+  packet-destinationID : destinationID (packetFor r o bits) ≡ sourceID r
+  unfolding packetFor
+  packet-destinationID = take-at (sourceID r) _ (sourceLength r) (length-sourceID r complete)
+
+  from-source : drop (sourceStart (packetFor r o bits)) (packetFor r o bits) ≡ destinationID r ++ listBytes o
+  unfolding packetFor
+  from-source =
+      let bytes = packetFor r o bits in
+      let sl = sourceLength r in
+      let z : 7 + sl ≡ 6 + sl + 1 = omega arith in
+      let behind = sym (drop-drop sl 6 bytes) ∙ drop-at (sourceID r) _ sl (length-sourceID r complete) in
+      ap (λ (k : ℕ). drop k bytes) z ∙ sym (drop-drop 1 (6 + sl) bytes) ∙ ap (drop 1) behind
+
+  packet-sourceID : sourceID (packetFor r o bits) ≡ destinationID r
+  packet-sourceID =
+      let bytes = packetFor r o bits in
+      ap (λ (k : ℕ). take k (drop (sourceStart bytes) bytes)) packet-sourceLength ∙
+      ap (take (destinationLength r)) from-source ∙
+      take-at (destinationID r) (listBytes o) (destinationLength r) (length-destinationID r complete)
+
+  packet-restOf : restOf (packetFor r o bits) ≡ listBytes o
+  packet-restOf =
+      let bytes = packetFor r o bits in
+      ap (λ (k : ℕ). drop (sourceStart bytes + k) bytes) packet-sourceLength ∙
+      sym (drop-drop (destinationLength r) (sourceStart bytes) bytes) ∙
+      ap (drop (destinationLength r)) from-source ∙
+      drop-at (destinationID r) (listBytes o) (destinationLength r) (length-destinationID r complete)

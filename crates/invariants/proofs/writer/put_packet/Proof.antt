@@ -4,8 +4,9 @@ use mathlib.Core.Path.{_∙_, ap}
 use lib.ListN.{length}
 use denote.Ref.{now}
 use Rattle.invariants.specs.Packet.{packetFor}
-use Rattle.invariants.proofs.Packets.{put-parts, length-packetFor}
+use Rattle.invariants.proofs.Packets.{length-packetFor}
 use Rattle.invariants.proofs.Places.{length-put}
+use Rattle.invariants.proofs.Writing.{put-parts}
 use Rattle.invariants.proofs.writer.put_packet.Statement.{statement}
 use Rattle.invariants.proofs.writer.put_packet.Tie as tie
 

@@ -8,7 +8,8 @@ use lib.ListN.{length}
 use Rattle.refusals.specs.Reply.{Reply, Reply.answered}
 use Rattle.refusals.specs.Written.{leaves}
 use Rattle.invariants.specs.Packet.{packetFor, negotiationPacket}
-use Rattle.invariants.proofs.Packets.{Judged, count-judged, refused-leaves}
+use Rattle.invariants.proofs.Packets.{Judged}
+use Rattle.invariants.proofs.Writing.{count-judged, refused-leaves}
 use Rattle.invariants.proofs.writer.write_version_negotiation.Statement.{statement}
 use Rattle.invariants.proofs.writer.write_version_negotiation.Tie as tie
 
@@ -53,8 +54,7 @@ same-length c = search needs
 returns-2 : tie.Need-returns-2
 returns-2 c =
     let here = c .before .before .before .before in
-    let buffer = now (here .before .before .before .before .before .before .args .buffer) in
-    (here .before .before .judge .ensures, c .before .before .put-packet .ensures ∙ ap (λ reply. leaves reply buffer) (sym (told here .1)))
+    (here .before .before .judge .ensures, rw (told here .1) (c .before .before .put-packet .ensures))
 
 pub write-version-negotiation-spec : {M : Type 1} → statement M
 write-version-negotiation-spec =
