@@ -2,7 +2,7 @@
 use Prim.Native.Nat.{ℕ, zero, suc, _+_, _-_, _*_, _%_, _^_, _≤_, _<_}
 use mathlib.Core.Bool.{Bool, true, false, not, _&&_, _||_, true≢false, false≢true}
 use mathlib.Core.List.{List, [], _∷_, _++_}
-use mathlib.Core.Path.{_≡_, refl, sym, ap, _∙_}
+use mathlib.Core.Path.{_≡_, refl, sym, ap, _∙_, subst}
 use native.Mathlib.Omega.{arith}
 use lib.Dec.{eqb, ltb, leb}
 use lib.ListN.{length, take, drop, getD, length-append}
@@ -17,6 +17,7 @@ use Rattle.versions.specs.Table.{elem, entriesKeepRule, tableKeepsRule}
 use Rattle.versions.specs.Version.{reserved, usable}
 use Rattle.versions.specs.Wire.{bytesOf, entries, listBytes, versionBytes}
 use Rattle.versions.specs.declared.Span.{Span}
+use Rattle.versions.proofs.Lists.{part-rest}
 use Rattle.versions.proofs.Entries.{allBelow, allBelow-head, entries-listBytes, length-listBytes}
 use Rattle.invariants.specs.Header.{Form, Form.versionNegotiation, span, isLong, versionOf, destinationLength, sourceLength, destinationID, sourceID, sourceStart, restStart, restOf, listed, longTruncated, notWhole, readHeader}
 use Rattle.invariants.specs.Limits.{maxConnectionID, maxDatagram, maxUnusedBits}
@@ -221,3 +222,68 @@ module _ (r o : List ℕ) (bits : ℕ) (complete : restStart r ≤ length r) whe
       sym (drop-drop (destinationLength r) (sourceStart bytes) bytes) ∙
       ap (drop (destinationLength r)) from-source ∙
       drop-at (destinationID r) (listBytes o) (destinationLength r) (length-destinationID r complete)
+
+list-whole : (o : List ℕ) → 1 ≤ length o → notWhole (listBytes o) ≡ false
+list-whole o h =
+    let l = length-listBytes o in
+    let some : length (listBytes o) ≡ 0 → ⊥ = λ e. absurd (omega arith) in
+    let fours : length (listBytes o) % versionBytes ≡ 0 = omega arith in
+    rw (ne-eqb _ _ some, eq-eqb _ _ fours)
+
+packet-long : (r o : List ℕ) (bits : ℕ) → isLong (packetFor r o bits) ≡ true
+unfolding packetFor
+packet-long r o bits = le-leb 128 (128 + bits) (omega arith)
+
+packet-version : (r o : List ℕ) (bits : ℕ) → versionOf (packetFor r o bits) ≡ 0
+unfolding packetFor
+packet-version r o bits = refl
+
+packet-read : (r o : List ℕ) (bits room : ℕ) → Judged r o bits room → allBelow 256 r ≡ true
+    → allBelow (2 ^ 32) o ≡ true → ReadBack r o (packetFor r o bits)
+packet-read r o bits room j er eo =
+    let bytes = packetFor r o bits in
+    let c = j .complete in
+    let l = length-packetFor r o bits c in
+    let d = packet-destinationLength r o bits c in
+    let s = packet-sourceLength r o bits c in
+    let rest = packet-restOf r o bits c in
+    let limit : length bytes ≤ maxDatagram = omega (arith, packet-at-most r o bits room j er) in
+    let complete : restStart bytes ≤ length bytes = omega arith in
+    let whole : notWhole (restOf bytes) ≡ false = ap notWhole rest ∙ list-whole o (table-length o (j .table) .0) in
+    let kept : listed bytes ≡ o = ap entries rest ∙ entries-listBytes o eo in
+    let nd : 6 + destinationLength bytes - 6 ≡ destinationLength bytes = omega arith in
+    let ns : restStart bytes - sourceStart bytes ≡ sourceLength bytes = omega arith in
+    record {
+      destination = span 6 (6 + destinationLength bytes);
+      source = span (sourceStart bytes) (restStart bytes);
+      list = span (restStart bytes) (length bytes);
+      reads = λ told. reads-negotiation bytes told limit (packet-long r o bits) (packet-version r o bits) complete whole;
+      destination-bytes = ap (λ (k : ℕ). take k (drop 6 bytes)) nd ∙ packet-destinationID r o bits c;
+      source-bytes = ap (λ (k : ℕ). take k (drop (sourceStart bytes) bytes)) ns ∙ packet-sourceID r o bits c;
+      list-bytes = ap entries (part-rest bytes (restStart bytes)) ∙ kept;
+      destination-swapped = packet-destinationID r o bits c;
+      source-swapped = packet-sourceID r o bits c;
+      list-kept = kept
+    }
+
+-- The header reader reads back what the writer put in
+pub read-back : (received offered : List ℕ) (unusedBits room : ℕ) (bytes : List ℕ)
+    → negotiationPacket received offered unusedBits room ≡ answered bytes
+    → allBelow 256 received ≡ true → allBelow (2 ^ 32) offered ≡ true → ReadBack received offered bytes
+read-back r o bits room bytes h er eo =
+    let p = negotiated r o bits room bytes h in
+    subst (ReadBack r o) (sym (p .1)) (packet-read r o bits room (p .0) er eo)
+
+-- ---- document 01's whole case
+
+-- "received `C0 00 00 00 0C 02 AA BB 01 CC FF`, offered 14, 13, 10, bits 64, gives the 22 bytes `C0 00 00 00 00 01 CC
+-- 02 AA BB 00 00 00 0E 00 00 00 0D 00 00 00 0A`"
+pub whole-case :
+    negotiationPacket
+    (0xC0 ∷ 0x00 ∷ 0x00 ∷ 0x00 ∷ 0x0C ∷ 0x02 ∷ 0xAA ∷ 0xBB ∷ 0x01 ∷ 0xCC ∷ 0xFF ∷ [])
+    (14 ∷ 13 ∷ 10 ∷ []) 64 22 ≡
+    answered
+    (0xC0 ∷ 0x00 ∷ 0x00 ∷ 0x00 ∷ 0x00 ∷ 0x01 ∷ 0xCC ∷ 0x02 ∷ 0xAA ∷ 0xBB ∷
+    0x00 ∷ 0x00 ∷ 0x00 ∷ 0x0E ∷ 0x00 ∷ 0x00 ∷ 0x00 ∷ 0x0D ∷ 0x00 ∷ 0x00 ∷ 0x00 ∷ 0x0A ∷ [])
+unfolding negotiationPacket packetFor listBytes tableKeepsRule entriesKeepRule elem usable reserved
+whole-case = refl
