@@ -5,12 +5,14 @@ use mathlib.Core.Path.{_≡_, sym, ap, _∙_}
 use denote.Ref.{now}
 use mathlib.Core.Bool.{true}
 use Prim.Native.Nat.{_+_, _*_}
-use lib.ListN.{length}
+use lib.ListN.{length, drop}
 use Rattle.refusals.specs.Reply.{Reply.answered}
+use Rattle.refusals.specs.Rule.{judged}
+use Rattle.refusals.specs.declared.Call.the-variants.{Writing}
 use Rattle.versions.specs.Table.{elem, tableKeepsRule}
 use Rattle.versions.specs.Wire.{versionBytes}
 use Rattle.invariants.specs.Header.{versionOf}
-use Rattle.invariants.specs.Packet.{packetFor}
+use Rattle.invariants.specs.Packet.{packetFor, packetRules}
 use Rattle.invariants.proofs.Packets.{length-packetFor}
 use Rattle.invariants.proofs.writer.judge_offer.Statement.{statement}
 use Rattle.invariants.proofs.writer.judge_offer.Tie as tie
@@ -25,6 +27,34 @@ offers :
     let args = c .before .before .before .before .before .before .args in
     elem (versionOf (now (args .received))) (now (args .offered)) ≡ c .contains .result
 offers c = rw (sym (c .before .version-of .ensures)) (sym (c .contains .ensures))
+
+-- The rule that is left, 26, decides
+room-decides :
+    (c : tie.Else3) →
+    let args = c .before .before .before .before .before .before .before .before .args in
+    let rules = packetRules (now (args .received)) (now (args .offered)) (args .unused-bits) (args .room) in
+    let packet = answered (packetFor (now (args .received)) (now (args .offered)) (args .unused-bits)) in
+    judged Writing (drop 4 rules) packet ≡ judged Writing (drop 7 rules) packet
+room-decides c =
+    rw (
+      kept (c .before .before .before .before),
+      offers (c .before .before) ∙ c .before .if2 .left,
+      le-ltb _ _ (c .if3 .left),
+    )
+
+-- The count is the packet's length
+counts :
+    (c : tie.After-source-length) →
+    let args = c .before .before .before .before .before .before .before .before .before .before .args in
+    7 + (c .before .destination-length .result + (c .source-length .result + versionBytes * length (now (args .offered)))) ≡
+    length (packetFor (now (args .received)) (now (args .offered)) (args .unused-bits))
+counts c =
+    let start = c .before .before .before .before .before .before .before .before .before .before in
+    rw (
+      length-packetFor (now (start .args .received)) (now (start .args .offered)) (start .args .unused-bits) (start .pre),
+      sym (c .source-length .ensures .0),
+      sym (c .before .destination-length .ensures .0),
+    )
 
 is-table-requires : tie.Need-is-table-requires
 is-table-requires c κs = search needs
@@ -70,34 +100,16 @@ add-count-3 c = search needs
 returns-4 : tie.Need-returns-4
 returns-4 c =
     rw (
-      kept (c .before .before .before .before .before .before .before),
-      offers (c .before .before .before .before .before) ∙ c .before .before .before .before .if2 .left,
-      le-ltb _ _ (c .before .before .before .if3 .left),
+      room-decides (c .before .before .before),
       sym (c .before .source-length .ensures .0),
       sym (c .before .before .destination-length .ensures .0),
       lt-ltb _ _ (c .if4 .taken),
     )
 
--- The count is the packet's length
-counts :
-    (c : tie.After-source-length) →
-    let args = c .before .before .before .before .before .before .before .before .before .before .args in
-    7 + (c .before .destination-length .result + (c .source-length .result + versionBytes * length (now (args .offered)))) ≡
-    length (packetFor (now (args .received)) (now (args .offered)) (args .unused-bits))
-counts c =
-    let start = c .before .before .before .before .before .before .before .before .before .before in
-    rw (
-      length-packetFor (now (start .args .received)) (now (start .args .offered)) (start .args .unused-bits) (start .pre),
-      sym (c .source-length .ensures .0),
-      sym (c .before .destination-length .ensures .0),
-    )
-
 returns-5 : tie.Need-returns-5
 returns-5 c =
     rw (
-      kept (c .before .before .before .before .before .before .before),
-      offers (c .before .before .before .before .before) ∙ c .before .before .before .before .if2 .left,
-      le-ltb _ _ (c .before .before .before .if3 .left),
+      room-decides (c .before .before .before),
       sym (c .before .source-length .ensures .0),
       sym (c .before .before .destination-length .ensures .0),
       le-ltb _ _ (c .if4 .left),
