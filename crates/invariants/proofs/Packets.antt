@@ -1,4 +1,5 @@
--- The Version Negotiation packet: its length, and that the header reader reads back from it what was put in.
+-- The Version Negotiation packet: its length, and that the header reader reads back from it what was put in. Below, r
+-- is the received datagram and o the offered table.
 use Prim.Native.Nat.{ℕ, zero, suc, _+_, _-_, _*_, _%_, _^_, _≤_, _<_}
 use mathlib.Core.Bool.{Bool, true, false, not, _&&_, _||_, true≢false, false≢true}
 use mathlib.Core.List.{List, [], _∷_, _++_}
@@ -15,11 +16,11 @@ use Rattle.refusals.proofs.Rules.{both-true, lowest-clear, lowest-applies}
 use Rattle.versions.specs.Limits.{maxTable}
 use Rattle.versions.specs.Table.{elem, entriesKeepRule, tableKeepsRule}
 use Rattle.versions.specs.Version.{reserved, usable}
-use Rattle.versions.specs.Wire.{bytesOf, entries, listBytes, versionBytes}
+use Rattle.versions.specs.Wire.{entries, listBytes, versionBytes}
 use Rattle.versions.specs.declared.Span.{Span}
 use Rattle.versions.proofs.Lists.{part-rest}
 use Rattle.versions.proofs.Entries.{allBelow, allBelow-head, entries-listBytes, length-listBytes}
-use Rattle.invariants.specs.Header.{Form, Form.versionNegotiation, span, isLong, versionOf, destinationLength, sourceLength, destinationID, sourceID, sourceStart, restStart, restOf, listed, longTruncated, notWhole, readHeader}
+use Rattle.invariants.specs.Header.{Form.versionNegotiation, span, isLong, versionOf, destinationLength, sourceLength, destinationID, sourceID, sourceStart, restStart, restOf, listed, longTruncated, notWhole, readHeader}
 use Rattle.invariants.specs.Limits.{maxConnectionID, maxDatagram, maxUnusedBits}
 use Rattle.invariants.specs.Packet.{packetLength, packetFor, packetRules, negotiationPacket}
 use Rattle.invariants.proofs.Places.{length-part}
@@ -90,7 +91,7 @@ clear-judged r o bits room e =
       table = not-false (tableKeepsRule o) (p23 .0);
       other = p24 .0;
       bits-fit = ltb-false maxUnusedBits bits (p25 .0);
-      room-fits = ltb-false room (packetLength r o) (p26 .0)
+      room-fits = ltb-false room (packetLength r o) (p26 .0);
     }
 
 -- Whether a reply is no refusal
@@ -106,8 +107,10 @@ negotiated r o bits room bytes h = go (clear (packetRules r o bits room)) refl
   where
     rules : List Rule
     rules = packetRules r o bits room
+
     packet : Reply (List ℕ)
     packet = answered (packetFor r o bits)
+
     go : (b : Bool) → clear (packetRules r o bits room) ≡ b → Judged r o bits room × (bytes ≡ packetFor r o bits)
     go true e =
         let q : packet ≡ answered bytes = sym (lowest-clear (refuse Writing) packet rules e) ∙ h in
@@ -263,7 +266,7 @@ packet-read r o bits room j er eo =
       list-bytes = ap entries (part-rest bytes (restStart bytes)) ∙ kept;
       destination-swapped = packet-destinationID r o bits c;
       source-swapped = packet-sourceID r o bits c;
-      list-kept = kept
+      list-kept = kept;
     }
 
 -- The header reader reads back what the writer put in
@@ -278,12 +281,22 @@ read-back r o bits room bytes h er eo =
 
 -- "received `C0 00 00 00 0C 02 AA BB 01 CC FF`, offered 14, 13, 10, bits 64, gives the 22 bytes `C0 00 00 00 00 01 CC
 -- 02 AA BB 00 00 00 0E 00 00 00 0D 00 00 00 0A`"
-pub whole-case :
-    negotiationPacket
-    (0xC0 ∷ 0x00 ∷ 0x00 ∷ 0x00 ∷ 0x0C ∷ 0x02 ∷ 0xAA ∷ 0xBB ∷ 0x01 ∷ 0xCC ∷ 0xFF ∷ [])
-    (14 ∷ 13 ∷ 10 ∷ []) 64 22 ≡
-    answered
-    (0xC0 ∷ 0x00 ∷ 0x00 ∷ 0x00 ∷ 0x00 ∷ 0x01 ∷ 0xCC ∷ 0x02 ∷ 0xAA ∷ 0xBB ∷
-    0x00 ∷ 0x00 ∷ 0x00 ∷ 0x0E ∷ 0x00 ∷ 0x00 ∷ 0x00 ∷ 0x0D ∷ 0x00 ∷ 0x00 ∷ 0x00 ∷ 0x0A ∷ [])
+abbrev pub caseReceived : List ℕ
+caseReceived = 0xC0 ∷ 0x00 ∷ 0x00 ∷ 0x00 ∷ 0x0C ∷ 0x02 ∷ 0xAA ∷ 0xBB ∷ 0x01 ∷ 0xCC ∷ 0xFF ∷ []
+
+abbrev pub caseOffered : List ℕ
+caseOffered = 14 ∷ 13 ∷ 10 ∷ []
+
+abbrev pub casePacket : List ℕ
+casePacket =
+    0xC0 ∷ 0x00 ∷ 0x00 ∷ 0x00 ∷ 0x00 ∷ 0x01 ∷ 0xCC ∷ 0x02 ∷ 0xAA ∷ 0xBB ∷
+    0x00 ∷ 0x00 ∷ 0x00 ∷ 0x0E ∷ 0x00 ∷ 0x00 ∷ 0x00 ∷ 0x0D ∷ 0x00 ∷ 0x00 ∷ 0x00 ∷ 0x0A ∷ []
+
+pub whole-case : negotiationPacket caseReceived caseOffered 64 22 ≡ answered casePacket
 unfolding negotiationPacket packetFor listBytes tableKeepsRule entriesKeepRule elem usable reserved
 whole-case = refl
+
+-- It meets the premises of `read-back`
+pub whole-case-read : ReadBack caseReceived caseOffered casePacket
+unfolding allBelow
+whole-case-read = read-back caseReceived caseOffered 64 22 casePacket whole-case refl refl

@@ -31,7 +31,12 @@ use versions::wire::put_list;
 // end), 21 (it has the short form), 22 (it has version 0), 23 (the offered table breaks its rule), 24 (the
 // received version is in it), 25 (the unused bits are over MAX_UNUSED_BITS), 26 (the buffer is shorter than
 // the packet).
-pub fn write_version_negotiation(received: &[u8], offered: &[u32], unused_bits: u8, buffer: &mut [u8]) -> Written
+pub fn write_version_negotiation(
+    received: &[u8],
+    offered: &[u32],
+    unused_bits: u8,
+    buffer: &mut [u8],
+) -> Written
     ensures answer { λ r. ⌜ writtenReply r ≡ counted (negotiationPacket (now (received .entry)) (now (offered .entry)) «unused_bits» (length (now (buffer .entry)))) ⌝ }
     ensures left { λ _. ⌜ now (buffer .exit) ≡ leaves (negotiationPacket (now (received .entry)) (now (offered .entry)) «unused_bits» (length (now (buffer .entry)))) (now (buffer .entry)) ⌝ }
 {
@@ -91,7 +96,8 @@ fn judge_offer(received: &[u8], offered: &[u32], unused_bits: u8, room: usize) -
     Written::Count(count)
 }
 
-// Puts the packet at the buffer's front.
+// Puts the packet at the buffer's front, part by part: IDs swapped, each behind its length. (There is room for
+// the list, so `put_list` answers true.)
 fn put_packet(received: &[u8], offered: &[u32], unused_bits: u8, buffer: &mut [u8])
     requires complete { ⌜ restStart (now received) ≤ length (now received) ⌝ }
     requires bits { ⌜ «unused_bits» ≤ maxUnusedBits ⌝ }
@@ -103,11 +109,11 @@ fn put_packet(received: &[u8], offered: &[u32], unused_bits: u8, buffer: &mut [u
     let source_start = 7 + destination;
     let source_end = source_start + source;
     let destination_end = 6 + destination;
-    let second = 6 + source;
+    let second_id = 6 + source;
     let list = 7 + source + destination;
     put_front(128 + unused_bits, buffer);
     put_id(&received[source_start..source_end], &mut buffer[5..]);
-    put_id(&received[6..destination_end], &mut buffer[second..]);
+    put_id(&received[6..destination_end], &mut buffer[second_id..]);
     put_list(offered, &mut buffer[list..]);
 }
 

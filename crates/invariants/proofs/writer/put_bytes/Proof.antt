@@ -1,9 +1,9 @@
 -- `put_bytes`: after i bytes the buffer begins with them, and goes on as it was.
 use Prim.Native.Nat.{_-_, _≤_}
 use mathlib.Core.List.{_++_}
-use mathlib.Core.Path.{_≡_, refl, sym, _∙_, ap}
+use mathlib.Core.Path.{_≡_, refl, _∙_}
 use native.Mathlib.Omega.{arith}
-use lib.ListN.{length, take, drop, set, length-set}
+use lib.ListN.{length, take, drop, length-set}
 use denote.Ref.{now}
 use Rattle.invariants.proofs.Places.{copy-step, copied}
 use Rattle.invariants.proofs.writer.put_bytes.Statement.{statement}

@@ -25,8 +25,8 @@ add-source-end c = search needs
 add-destination-end : tie.Need-add-destination-end
 add-destination-end c = search needs
 
-add-second : tie.Need-add-second
-add-second c = search needs
+add-second-id : tie.Need-add-second-id
+add-second-id c = search needs
 
 add-list : tie.Need-add-list
 add-list c = search needs
@@ -122,7 +122,7 @@ put-packet-spec =
     add-source-start
     add-source-end
     add-destination-end
-    add-second
+    add-second-id
     add-list
     add-list-2
     add-put-front

@@ -2,11 +2,10 @@
 use borrow.Author.Needs.{needs}
 use Prim.Native.Nat.{ℕ}
 use mathlib.Core.List.{List}
-use mathlib.Core.Path.{_≡_, sym, ap, _∙_}
+use mathlib.Core.Path.{_≡_}
 use denote.Ref.{now}
 use lib.ListN.{length}
 use Rattle.refusals.specs.Reply.{Reply, Reply.answered}
-use Rattle.refusals.specs.Written.{leaves}
 use Rattle.invariants.specs.Packet.{packetFor, negotiationPacket}
 use Rattle.invariants.proofs.Packets.{Judged}
 use Rattle.invariants.proofs.Writing.{count-judged, refused-leaves}
