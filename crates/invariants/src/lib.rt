@@ -2,6 +2,7 @@
 // writer. Every function answers for every input.
 mod fields; // the fields of a long form
 pub mod reader; // the header reader
+pub mod writer; // the Version Negotiation packet that answers a datagram
 
 use refusals::Refusal;
 use versions::Span;
