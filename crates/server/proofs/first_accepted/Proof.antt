@@ -1,50 +1,59 @@
+-- `first_accepted` meets its contract. The loop's invariant: the rest of the table answers for the whole.
+use Prim.Native.Nat.{_≤_, _-_}
+use mathlib.Core.Path.{_≡_, sym, ap, _∙_}
+use native.Mathlib.Omega.{arith}
+use borrow.Author.Needs.{needs}
+use lib.ListN.{length, drop}
+use Rattle.refusals.specs.Reply.{Reply.answered}
+use Rattle.versions.specs.Wire.{entries}
+use Rattle.server.specs.FirstFlight.{firstAccepted}
+use Rattle.server.proofs.Flights.{accepted-here, accepted-next, accepted-end}
 use Rattle.server.proofs.first_accepted.Statement.{statement}
 use Rattle.server.proofs.first_accepted.Tie as tie
-use Rattle.server.proofs.first_accepted.Reads as reads
-use Rattle.server.proofs.first_accepted.Lts as lts
-use Rattle.server.proofs.may_use.Reads as may-use-reads
 
 abbrev Inv-loop : tie.InvT-loop
-Inv-loop accepted pairs chosen available i₀ i = ?
+Inv-loop accepted pairs chosen available i₀ i = (i ≤ length accepted) × (firstAccepted accepted pairs chosen (entries available) ≡ firstAccepted (drop i accepted) pairs chosen (entries available))
 
 abbrev μ-loop : tie.MeasureT-loop
-μ-loop accepted pairs chosen available i₀ i = ?
+μ-loop accepted pairs chosen available i₀ i = length accepted - i
 
--- src/lib.rt:104:5
 loop-holds : tie.Need-loop-holds Inv-loop μ-loop
-loop-holds c = ?
+loop-holds c = search needs
 
--- src/lib.rt:105:23
 mul-version : tie.Need-mul-version Inv-loop μ-loop
-mul-version c = ?
+mul-version c = search needs
 
--- src/lib.rt:105:23
 shared-slice-read-version : tie.Need-shared-slice-read-version Inv-loop μ-loop
-shared-slice-read-version c = ?
+shared-slice-read-version c = omega arith
 
--- src/lib.rt:106:12
 may-use-requires : tie.Need-may-use-requires Inv-loop μ-loop
-may-use-requires c κs = ?
+may-use-requires c κs = search needs
 
--- src/lib.rt:107:13
 returns : tie.Need-returns Inv-loop μ-loop
-returns c = ?
+returns c =
+    let at = c .before .before .before .before in
+    sym
+    (ap answered
+    (at .loop .inv .1 ∙
+    accepted-here _ _ _ _ _ (c .before .before .before .loop-test .taken)
+    (sym (c .before .may-use .ensures) ∙ c .if1 .taken)))
 
--- src/lib.rt:109:9
 add-i : tie.Need-add-i Inv-loop μ-loop
-add-i c = ?
+add-i c = omega arith
 
--- src/lib.rt:104:5
 loop-less : tie.Need-loop-less Inv-loop μ-loop
-loop-less c = ?
+loop-less c = omega arith
 
--- src/lib.rt:104:5
 loop-again : tie.Need-loop-again Inv-loop μ-loop
-loop-again c = ?
+loop-again c = (
+  omega arith,
+  c .before .before .before .before .loop .inv .1 ∙
+      accepted-next _ _ _ _ _ (c .before .before .before .loop-test .taken)
+      (sym (c .before .may-use .ensures) ∙ c .if1 .left),
+)
 
--- src/lib.rt:95:1
 returns-2 : tie.Need-returns-2 Inv-loop μ-loop
-returns-2 c = ?
+returns-2 c = sym (ap answered (c .before .loop .inv .1 ∙ accepted-end _ _ _ _ _ (c .loop-test .left)))
 
 pub first-accepted-spec : {M : Type 1} → statement M
 first-accepted-spec =

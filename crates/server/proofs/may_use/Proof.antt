@@ -1,30 +1,34 @@
+-- `may_use` meets its contract: at each exit the tests on the way decide.
 use borrow.Author.Needs.{needs}
+use borrow.Author.Tests.{not-true, not-false, eq-eqb, ne-eqb}
+use Rattle.server.specs.FirstFlight.{mayUse}
 use Rattle.server.proofs.may_use.Statement.{statement}
 use Rattle.server.proofs.may_use.Tie as tie
-use Rattle.server.proofs.may_use.Reads as reads
-use Rattle.server.proofs.may_use.Lts as lts
-use Rattle.versions.proofs.pairs.is_paired.Reads as is-paired-reads
-use Rattle.versions.proofs.wire.contains_in_bytes.Reads as contains-in-bytes-reads
 
--- src/lib.rt:118:9
 contains-in-bytes-requires : tie.Need-contains-in-bytes-requires
 contains-in-bytes-requires c κs = search needs
 
--- src/lib.rt:119:9
 returns : tie.Need-returns
-returns c = ?
+unfolding mayUse
+returns c =
+    let held = c .before .contains-in-bytes in
+    rw (← held .ensures, not-true (held .result) (c .if1 .taken))
 
--- src/lib.rt:122:9
 returns-2 : tie.Need-returns-2
-returns-2 c = ?
+unfolding mayUse
+returns-2 c =
+    let held = c .before .before .contains-in-bytes in
+    rw (← held .ensures, not-false (held .result) (c .before .if1 .left), eq-eqb _ _ (c .if2 .taken))
 
--- src/lib.rt:124:5
 is-paired-requires : tie.Need-is-paired-requires
 is-paired-requires c κs = search needs
 
--- src/lib.rt:115:1
 returns-3 : tie.Need-returns-3
-returns-3 c = ?
+unfolding mayUse
+returns-3 c =
+    let held = c .before .before .before .contains-in-bytes in
+    rw (← held .ensures, not-false (held .result) (c .before .before .if1 .left), ne-eqb _ _ (c .before .if2 .left))
+    (c .is-paired .ensures)
 
 pub may-use-spec : {M : Type 1} → statement M
 may-use-spec =
