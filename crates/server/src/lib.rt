@@ -1,9 +1,125 @@
 // The server's choice after a first flight (RFC 9368 sections 2.3 and 4). It answers for every input.
+ghost use mathlib.Core.Bool.{cond};
+ghost use mathlib.Core.Path.{_≡_};
+ghost use Rattle.refusals.specs.Reply.{Reply.answered};
+ghost use Rattle.versions.specs.Table.{elem};
+ghost use Rattle.versions.specs.Wire.{entries};
+ghost use Rattle.information.specs.declared.Presence.the-variants.{Given};
+ghost use Rattle.server.specs.FirstFlight.{Act.negotiate, Act.use-version, decisionReply, mayUse, firstAccepted, withInformation, decide};
+use information::Information;
+use information::Presence;
+use information::Sender;
+use information::read_information;
 use refusals::Refusal;
+use versions::pairs::are_pairs;
+use versions::pairs::is_paired;
+use versions::table::contains;
+use versions::table::is_table;
+use versions::wire::contains_in_bytes;
 
 // What the server does: it refuses, it sends a Version Negotiation packet, or it uses a version.
 pub enum Decision {
     Refused(Refusal),
     Negotiate,
     Use(u32),
+}
+
+// Decides after a first flight of a version, from the tables of versions whose first flights the server can read
+// and of those it accepts, from its pairs, and from the client's Version Information. Refusals, in order: 41 (a
+// table breaks its rule), 43 (the pairs break their rule); then, for a readable version with information given: 31
+// to 36 (the information is malformed), 51 (the Chosen Version is not the first flight's). Answers: a version that
+// is not readable is negotiated; with information missing, the version itself if accepted, else negotiate; with
+// information given, the first accepted version that is among the Available Versions and is the Chosen Version or
+// paired from it, else negotiate.
+pub fn choose_after_first_flight(
+    readable: &[u32],
+    accepted: &[u32],
+    pairs: &[[u32; 2]],
+    version: u32,
+    presence: Presence,
+    information: &[u8],
+) -> Decision
+    ensures { λ r. ⌜ decisionReply r ≡ decide (now (readable .entry)) (now (accepted .entry)) (now (pairs .entry)) version presence (now (information .entry)) ⌝ }
+{
+    if !is_table(readable) {
+        return Decision::Refused(Refusal::BAD_TABLE);
+    }
+    if !is_table(accepted) {
+        return Decision::Refused(Refusal::BAD_TABLE);
+    }
+    if !are_pairs(pairs) {
+        return Decision::Refused(Refusal::BAD_PAIRS);
+    }
+    if !contains(readable, version) {
+        return Decision::Negotiate;
+    }
+    match presence {
+        Presence::Missing => choose_without_information(accepted, version),
+        Presence::Given => choose_with_information(accepted, pairs, version, information),
+    }
+}
+
+// The decision for a readable version where Version Information is missing.
+fn choose_without_information(accepted: &[u32], version: u32) -> Decision
+    ensures { λ r. ⌜ decisionReply r ≡ answered (cond (elem version (now (accepted .entry))) (use-version version) negotiate) ⌝ }
+{
+    if contains(accepted, version) {
+        return Decision::Use(version);
+    }
+    Decision::Negotiate
+}
+
+// The decision for a readable version where Version Information is given: 31 to 36, then 51, then the choice.
+fn choose_with_information(
+    accepted: &[u32],
+    pairs: &[[u32; 2]],
+    version: u32,
+    information: &[u8],
+) -> Decision
+    ensures { λ r. ⌜ decisionReply r ≡ withInformation (now (accepted .entry)) (now (pairs .entry)) version Given (now (information .entry)) ⌝ }
+{
+    match read_information(Sender::Client, information) {
+        Information::Refused(refusal) => Decision::Refused(refusal),
+        Information::Read { chosen, available } => {
+            if chosen != version {
+                return Decision::Refused(Refusal::CHOSEN_NOT_RECEIVED);
+            }
+            let start = available.start;
+            let end = available.end;
+            first_accepted(accepted, pairs, chosen, &information[start..end])
+        }
+    }
+}
+
+// The first accepted version that the server may use, in the order of the server's table.
+fn first_accepted(
+    accepted: &[u32],
+    pairs: &[[u32; 2]],
+    chosen: u32,
+    available: &[u8],
+) -> Decision
+    ensures { λ r. ⌜ decisionReply r ≡ answered (firstAccepted (now (accepted .entry)) (now (pairs .entry)) chosen (entries (now (available .entry)))) ⌝ }
+{
+    let mut i = 0;
+    while i < accepted.len() {
+        let version = accepted[i];
+        if may_use(pairs, chosen, available, version) {
+            return Decision::Use(version);
+        }
+        i += 1;
+    }
+    Decision::Negotiate
+}
+
+// Whether a version is among the Available Versions and is the Chosen Version or is paired from it.
+fn may_use(pairs: &[[u32; 2]], chosen: u32, available: &[u8], version: u32) -> bool
+    ensures { λ r. ⌜ r ≡ mayUse (now (pairs .entry)) chosen (entries (now (available .entry))) version ⌝ }
+{
+    if !contains_in_bytes(available, version) {
+        return false;
+    }
+    if version == chosen {
+        return true;
+    }
+    is_paired(pairs, chosen, version)
 }

@@ -1,0 +1,61 @@
+-- The choice after a first flight along its code: the walk over the accepted versions, and what the reader of the
+-- client's Version Information answered.
+use Prim.Native.Nat.{ℕ, _+_, _<_, _≤_}
+use mathlib.Core.Bool.{true, false, cond, not}
+use mathlib.Core.List.{List, [], _∷_}
+use mathlib.Core.Path.{_≡_, sym, _∙_}
+use lib.Dec.{eqb}
+use lib.ListN.{length, drop, getD, drop-of-length-le}
+use Rattle.refusals.specs.Reply.{Reply, Reply.answered, refuse}
+use Rattle.refusals.specs.Rule.{Rule._when_, judged}
+use Rattle.refusals.specs.declared.Call.the-variants.{Reading}
+use Rattle.refusals.proofs.Rules.{lowest-append}
+use Rattle.versions.specs.declared.Span.{Span}
+use Rattle.versions.proofs.Lists.{drop-next}
+use Rattle.information.specs.Information.{chosenOf, availableOf, versionsIn, readInformation}
+use Rattle.information.specs.declared.Presence.the-variants.{Given}
+use Rattle.information.specs.declared.Sender.the-variants.{Client}
+use Rattle.information.proofs.Readings.{Known, readRules, read-refused, known-available, known-clear}
+use Rattle.server.specs.FirstFlight.{Act, Act.negotiate, Act.use-version, mayUse, firstAccepted, withInformation}
+
+-- `firstAccepted` at a place of the walk: what the version there decides, what it leaves, and the end
+module _ (pairs : List (List ℕ)) (chosen : ℕ) (available accepted : List ℕ) (i : ℕ) where
+  pub accepted-here : i < length accepted → mayUse pairs chosen available (getD accepted i 0) ≡ true →
+      firstAccepted (drop i accepted) pairs chosen available ≡ use-version (getD accepted i 0)
+  unfolding firstAccepted
+  accepted-here h e = rw (drop-next accepted i 0 h, e)
+
+  pub accepted-next : i < length accepted → mayUse pairs chosen available (getD accepted i 0) ≡ false →
+      firstAccepted (drop i accepted) pairs chosen available ≡ firstAccepted (drop (i + 1) accepted) pairs chosen available
+  unfolding firstAccepted
+  accepted-next h e = rw (drop-next accepted i 0 h, e)
+
+  pub accepted-end : length accepted ≤ i → firstAccepted (drop i accepted) pairs chosen available ≡ negotiate
+  unfolding firstAccepted
+  accepted-end h = rw (drop-of-length-le accepted h)
+
+-- Version Information is given
+module _ (accepted : List ℕ) (pairs : List (List ℕ)) (version : ℕ) (information : List ℕ) where
+  abbrev given : Reply Act
+  given = withInformation accepted pairs version Given information
+
+  -- 51, then the choice, for what was read
+  abbrev after-36 : ℕ → List ℕ → Reply Act
+  after-36 chosen available =
+      judged Reading ((51 when not (eqb chosen version)) ∷ []) (answered (firstAccepted accepted pairs chosen available))
+
+  -- the reader's rules come first
+  apart : given ≡ judged Reading (readRules Client information) (after-36 (chosenOf information) (availableOf information))
+  apart =
+      lowest-append (refuse Reading) (answered (firstAccepted accepted pairs (chosenOf information) (availableOf information)))
+      (readRules Client information) ((51 when not (eqb (chosenOf information) version)) ∷ [])
+
+  pub given-refused : (n : ℕ) → refuse Reading n ≡ readInformation Client information → refuse Reading n ≡ given
+  given-refused n e =
+      read-refused Client information (refuse Reading) (after-36 (chosenOf information) (availableOf information)) n e ∙ sym apart
+
+  -- none of 31 to 36 applies
+  pub given-read : (c : ℕ) (s : Span) → Known Client information c s → given ≡ after-36 c (versionsIn information s)
+  given-read c s r =
+      rw (r .chosen-is, known-available Client information c s r)
+      (apart ∙ known-clear Client information (refuse Reading) (after-36 (chosenOf information) (availableOf information)) c s r)
