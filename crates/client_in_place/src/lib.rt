@@ -1,0 +1,20 @@
+// The client's events on a record that the host lends: the step by value, and its record stored back.
+ghost use mathlib.Core.Path.{_≡_};
+ghost use Rattle.client.specs.Events.{Reachable};
+ghost use Rattle.client.specs.Step.{answerReply, stepOf};
+use client::Answer;
+use client::Attempt;
+use client::Event;
+use client::stepping::step;
+
+// One event on a lent record, which a start handed back and events alone changed since. `bytes` is the datagram, or
+// the Version Information that is given; else it is not read. The answer, its refusals and what each of them leaves
+// are those of `step`.
+pub fn handle(attempt: &mut Attempt, event: Event, bytes: &[u8]) -> Answer
+    requires { ⌜ Reachable (now attempt) ⌝ }
+    ensures { λ r. ⌜ (answerReply r ≡ stepOf (now (attempt .entry)) event (now (bytes .entry)) .reply) × ((now (attempt .exit) ≡ stepOf (now (attempt .entry)) event (now (bytes .entry)) .attempt) × Reachable (now (attempt .exit))) ⌝ }
+{
+    let stepped = step(*attempt, event, bytes);
+    *attempt = stepped.attempt;
+    stepped.answer
+}
