@@ -1,0 +1,276 @@
+/*
+ * quic_version.h: the QUIC version layer (RFC 8999, RFC 9368), proved.
+ *
+ * Every function answers for every input. A refusal is a number of document 01's table, 0 is none;
+ * a result goes into a place that the caller lends, and a refusal leaves every such place as found.
+ * QV_NOT_VALID (255) is outside that table: an unknown kind, or a record that no attempt has.
+ *
+ * What no proof covers, and the caller has to see to:
+ *  - a pointer is valid for the length given with it, and for the size of what it points to;
+ *  - lent places and buffers do not overlap each other or the input;
+ *  - NULL is allowed exactly where the length given with it is 0;
+ *  - a record is used by one thread at a time. There is no global state: distinct records on
+ *    distinct threads are fine;
+ *  - x86-64 Linux.
+ *
+ * C99. Link with libc_interface.a, which `rt staticlib c_interface` makes.
+ */
+#ifndef QUIC_VERSION_H
+#define QUIC_VERSION_H
+
+#include <stddef.h>
+#include <stdint.h>
+
+#ifdef __cplusplus
+extern "C" {
+#endif
+
+/* The interface that this header describes; compare with qv_interface_version(). */
+#define QV_INTERFACE_VERSION 1u
+
+/* Limits. */
+#define QV_MAX_TABLE 16u            /* entries of a table of versions */
+#define QV_MAX_PAIRS 64u            /* pairs of a table of compatible pairs */
+#define QV_MAX_LIST 16382u          /* entries of a list to choose from */
+#define QV_MAX_ID 20u               /* bytes of an attempt's connection ID */
+#define QV_MAX_DATAGRAM 65535u      /* bytes of a datagram */
+#define QV_MAX_CONNECTION_ID 255u   /* bytes of a connection ID on the wire (RFC 8999) */
+#define QV_MAX_UNUSED_BITS 127u     /* the unused bits of a Version Negotiation packet */
+#define QV_MAX_INFORMATION 1024u    /* bytes of Version Information */
+#define QV_MAX_AVAILABLE 255u       /* Available Versions */
+#define QV_MAX_PACKET 581u          /* bytes of a Version Negotiation packet that is written */
+
+/* Refusals: document 01's numbers, each with its one cause. */
+#define QV_OK 0u
+#define QV_DATAGRAM_TOO_LONG 11u             /* over 65,535 bytes */
+#define QV_TRUNCATED 12u                     /* empty, a field past the end, a told length over 255 */
+#define QV_LIST_NOT_WHOLE 13u                /* Version Negotiation list empty, or bytes left over */
+#define QV_SHORT_FORM 21u                    /* the packet to answer has the short form */
+#define QV_VERSION_NEGOTIATION_RECEIVED 22u  /* the packet to answer has version 0 */
+#define QV_BAD_OFFERED_TABLE 23u             /* the offered table breaks its rule */
+#define QV_RECEIVED_VERSION_OFFERED 24u      /* the received version is in the offered table */
+#define QV_UNUSED_BITS_TOO_LARGE 25u         /* unused bits over 127 */
+#define QV_NO_ROOM_FOR_PACKET 26u            /* the buffer is shorter than the packet */
+#define QV_INFORMATION_TOO_SHORT 31u         /* under 4 bytes */
+#define QV_INFORMATION_NOT_IN_FOURS 32u      /* length not a multiple of four */
+#define QV_INFORMATION_TOO_LONG 33u          /* over 1,024 bytes, or over 255 entries to write */
+#define QV_CHOSEN_IS_ZERO 34u                /* Chosen Version is 0 */
+#define QV_AVAILABLE_HOLDS_ZERO 35u          /* an Available Version is 0 */
+#define QV_CHOSEN_NOT_AVAILABLE 36u          /* from a client, Chosen not among Available */
+#define QV_NO_ROOM_FOR_INFORMATION 37u       /* the buffer is shorter than the information */
+#define QV_LIST_TOO_LONG 40u                 /* list to choose from over 16,382 entries */
+#define QV_BAD_TABLE 41u                     /* a table of versions breaks its rule */
+#define QV_NOTHING_IN_COMMON 42u             /* nothing of the table is in the list */
+#define QV_BAD_PAIRS 43u                     /* the pairs break their rule */
+#define QV_ORIGINAL_NOT_IN_TABLE 44u         /* the Original Version is not in the table */
+#define QV_CONNECTION_ID_TOO_LONG 45u        /* a connection ID over 20 bytes */
+#define QV_CHOSEN_NOT_RECEIVED 51u           /* Chosen is not the first flight's version */
+#define QV_NOT_VERSION_NEGOTIATION 61u       /* no readable Version Negotiation packet */
+#define QV_TOO_LATE 62u                      /* ended; or Version Negotiation after acted or heard */
+#define QV_OTHER_CONNECTION 63u              /* the packet's connection IDs are not ours, swapped */
+#define QV_LISTS_ORIGINAL 64u                /* the packet lists the Original Version */
+#define QV_NO_VERSION_LEFT 65u               /* nothing in common; the attempt has ended */
+#define QV_INFORMATION_MISSING 71u           /* acted, information missing, attempted not 1 */
+#define QV_CHOSEN_NOT_OURS 72u               /* Chosen not in our own list */
+#define QV_CHOSEN_NOT_IN_USE 73u             /* Chosen is not the version in use */
+#define QV_AVAILABLE_EMPTY 74u               /* acted, Available empty */
+#define QV_DOWNGRADED 75u                    /* acted, the renewed choice is not the attempted version */
+#define QV_NOT_VALID 255u                    /* unknown kind, or a record that no attempt has */
+
+/* Close codes. */
+#define QV_CLOSE_NONE 0u
+#define QV_TRANSPORT_PARAMETER_ERROR 0x08u   /* RFC 9000 section 20.1 */
+#define QV_VERSION_NEGOTIATION_ERROR 0x11u   /* RFC 9368 section 10.2 */
+
+/* A pair of compatible versions: a first flight in `from` can be converted to `to`. */
+struct qv_pair {
+    uint32_t from;
+    uint32_t to;
+};
+
+/*
+ * The record of one attempt. Make it with qv_start, change it with qv_event alone. To read:
+ * `attempted` (the version to attempt now), `end_mark` and `end_value`.
+ */
+struct qv_attempt {
+    uint64_t rows[QV_MAX_TABLE];
+    uint32_t table[QV_MAX_TABLE];
+    uint8_t destination[QV_MAX_ID];
+    uint8_t source[QV_MAX_ID];
+    uint32_t table_len;
+    uint32_t destination_len;
+    uint32_t source_len;
+    uint32_t original;
+    uint32_t attempted;
+    uint32_t acted;
+    uint32_t heard;
+    uint32_t end_mark;
+    uint32_t end_value;
+    uint32_t unused;
+};
+
+/* end_mark, with what end_value holds. */
+#define QV_OPEN 0u       /* 0 */
+#define QV_COMPLETED 1u  /* the version in use */
+#define QV_CLOSED 2u     /* the number of the refusal */
+
+/* A record and the number of a refusal. */
+struct qv_started {
+    struct qv_attempt attempt;
+    uint32_t refusal;
+};
+
+/* The interface's version. */
+uint32_t qv_interface_version(void);
+
+/* sizeof(struct qv_attempt) as the library has it. */
+size_t qv_record_size(void);
+
+/* A record with known values in every field, to compare the layout with. It is no attempt. */
+struct qv_attempt qv_known_record(void);
+
+/*
+ * The close code of a refusal, QV_CLOSE_NONE where there is none. A writer's refusal closes nothing.
+ */
+#define QV_CALL_READING 0u /* a reader, the server's choice, an event */
+#define QV_CALL_WRITING 1u
+uint64_t qv_close_code(uint8_t refusal, uint32_t call);
+
+/* 1 if the version is reserved (0x?a?a?a?a, RFC 9000 section 15), else 0. */
+uint32_t qv_is_reserved(uint32_t version);
+
+/* 1 if the table keeps its rule (1 to 16 entries, none 0, none reserved, none twice), else 0. */
+uint32_t qv_is_table(const uint32_t *table, size_t table_len);
+
+/* 1 if the pairs keep their rule (0 to 64, no member 0 or reserved, members differ), else 0. */
+uint32_t qv_are_pairs(const struct qv_pair *pairs, size_t pairs_len);
+
+/*
+ * Reads a datagram's header. `told` is the length of a short form's destination ID; a long form
+ * ignores it.
+ * Refusals, in order: 11, 12, 13. They leave form, version and places as found.
+ * Else: form; version of a long form, else 0; places, from start up to, not with, end, of the
+ * destination ID, the source ID (0 and 0 for a short form) and the rest (a list of versions for
+ * Version Negotiation).
+ */
+#define QV_LONG 1u
+#define QV_SHORT 2u
+#define QV_VERSION_NEGOTIATION 3u
+enum {
+    QV_DESTINATION_START,
+    QV_DESTINATION_END,
+    QV_SOURCE_START,
+    QV_SOURCE_END,
+    QV_REST_START,
+    QV_REST_END,
+    QV_PLACES
+};
+uint32_t qv_read_header(const uint8_t *datagram, size_t datagram_len, size_t told, uint32_t *form,
+                        uint32_t *version, size_t places[QV_PLACES]);
+
+/*
+ * Writes the Version Negotiation packet that answers a received datagram: IDs swapped, then the
+ * offered table in its order.
+ * Refusals, in order: 11, 12, 21, 22, 23, 24, 25, 26. They leave buffer and count as found.
+ * Else: *count bytes are written, at most QV_MAX_PACKET; bytes past them keep their values.
+ */
+uint32_t qv_write_version_negotiation(const uint8_t *received, size_t received_len,
+                                      const uint32_t *offered, size_t offered_len,
+                                      uint8_t unused_bits, uint8_t *buffer, size_t buffer_len,
+                                      size_t *count);
+
+/* Who sends Version Information. */
+#define QV_CLIENT 0u
+#define QV_SERVER 1u
+
+/*
+ * Reads Version Information (RFC 9368 section 3).
+ * Refusals, in order: 255 (unknown sender), 31, 32, 33, 34, 35, 36 (a client's only). They leave
+ * chosen, start and end as found.
+ * Else: the Chosen Version, and the Available Versions lie from *start up to, not with, *end.
+ */
+uint32_t qv_read_information(uint32_t sender, const uint8_t *bytes, size_t bytes_len,
+                             uint32_t *chosen, size_t *start, size_t *end);
+
+/*
+ * Writes Version Information.
+ * Refusals, in order: 255 (unknown sender), 33, 34, 35, 36 (a client's only), 37. They leave buffer
+ * and count as found.
+ * Else: *count bytes are written; bytes past them keep their values.
+ */
+uint32_t qv_write_information(uint32_t sender, uint32_t chosen, const uint32_t *available,
+                              size_t available_len, uint8_t *buffer, size_t buffer_len,
+                              size_t *count);
+
+/*
+ * The entry at a place, counted from 0, of a list of versions as it lies on the wire: 1 and
+ * *version; or 0 where the list ends before it, which leaves *version as found.
+ */
+uint32_t qv_entry(const uint8_t *list, size_t list_len, size_t place, uint32_t *version);
+
+/*
+ * The choice from a list: the first entry of the table that occurs in it.
+ * Refusals, in order: 40, 41, 42. They leave *version as found.
+ */
+uint32_t qv_choose(const uint32_t *table, size_t table_len, const uint32_t *list, size_t list_len,
+                   uint32_t *version);
+
+/* The same from a list as it lies on the wire; 1 to 3 bytes left over are no entry. */
+uint32_t qv_choose_from_bytes(const uint32_t *table, size_t table_len, const uint8_t *bytes,
+                              size_t bytes_len, uint32_t *version);
+
+/* Whether the handshake had Version Information. */
+#define QV_MISSING 0u
+#define QV_GIVEN 1u
+
+/*
+ * The server's choice after a first flight in `version`.
+ * Refusals, in order: 255 (unknown presence), 41, 43, 31 to 36, 51. They leave *decision as found.
+ * Else: *decision is the version to use, or QV_NEGOTIATE: send a Version Negotiation packet.
+ */
+#define QV_NEGOTIATE 0u
+uint32_t qv_server_choice(const uint32_t *readable, size_t readable_len, const uint32_t *accepted,
+                          size_t accepted_len, const struct qv_pair *pairs, size_t pairs_len,
+                          uint32_t version, uint32_t presence, const uint8_t *information,
+                          size_t information_len, uint32_t *decision);
+
+/*
+ * Starts an attempt with a table of versions, pairs, the Original Version and our two connection
+ * IDs.
+ * Refusals, in order: 41, 43, 44, 45. The record is then no attempt.
+ */
+struct qv_started qv_start(const uint32_t *table, size_t table_len, const struct qv_pair *pairs,
+                           size_t pairs_len, uint32_t original, const uint8_t *destination,
+                           size_t destination_len, const uint8_t *source, size_t source_len);
+
+/*
+ * One event on a record, in place. `value` is the version in use of an outcome, and is not read
+ * else; `bytes` is the datagram, or the Version Information of QV_OUTCOME, and is not read else.
+ * Refusals, in order:
+ *   any event: 255, and the record is left as found;
+ *   a datagram: 61, 62, 63, 64, and the record is left as found; 65 ends the attempt;
+ *   a processed packet: 62, and the record is left as found;
+ *   an outcome: 62, and the record is left as found; 31 to 35 and 71 to 75 end the attempt.
+ * An ending changes end_mark and end_value alone.
+ * Else 0: after a datagram the attempt acted, and `attempted` is the version to attempt now; after
+ * an outcome the attempt has completed.
+ */
+#define QV_DATAGRAM 0u                    /* a datagram came */
+#define QV_PACKET_PROCESSED 1u            /* a genuine packet other than Version Negotiation */
+#define QV_OUTCOME 2u                     /* authenticated Version Information is given */
+#define QV_OUTCOME_WITHOUT_INFORMATION 3u /* it is missing */
+uint32_t qv_event(struct qv_attempt *attempt, uint32_t kind, uint32_t value, const uint8_t *bytes,
+                  size_t bytes_len);
+
+/*
+ * The own list of an attempt: every table entry that is the attempted version or is paired from
+ * it, in table order. It goes into the client's Version Information as Available Versions.
+ * Refusal: 255 for a record that no attempt has, which leaves versions and count as found.
+ */
+uint32_t qv_own_list(struct qv_attempt attempt, uint32_t versions[QV_MAX_TABLE], size_t *count);
+
+#ifdef __cplusplus
+}
+#endif
+
+#endif
