@@ -85,11 +85,11 @@ not-broken true refuses h = absurd (false≢true (sym (refuses refl) ∙ h))
 not-broken false refuses h = refl
 
 -- Each count is within its array, and a table has an entry
-abbrev CountsFit : Attempt → Type 0
-CountsFit a =
+abbrev Counted : Attempt → Type 0
+Counted a =
     (1 ≤ a .«table_len») × (a .«table_len» ≤ maxTable) × (a .«destination_len» ≤ maxID) × (a .«source_len» ≤ maxID)
 
-opened-counts : (x : Input) → isAccepted x ≡ true → CountsFit (opened x)
+opened-counts : (x : Input) → isAccepted x ≡ true → Counted (opened x)
 unfolding opened
 opened-counts x h =
     let table = not-broken (not (tableKeepsRule (x .table))) (λ e. simp (e, and-false)) h in
@@ -98,8 +98,8 @@ opened-counts x h =
     let counts = table-counts (x .table) (not-false _ table) in
     (counts .0, counts .1, ltb-false _ _ destination, ltb-false _ _ source)
 
-every-count : (a : Attempt) → Reachable a → CountsFit a
-every-count a r = reachable-any CountsFit (λ b kept v acted heard e. kept) opened-counts a r
+every-count : (a : Attempt) → Reachable a → Counted a
+every-count a r = reachable-any Counted (λ b kept v acted heard e. kept) opened-counts a r
 
 pub reachable-counts : {a : Attempt} → Reachable a →
     (a .«table_len» ≤ maxTable) × (a .«destination_len» ≤ maxID) × (a .«source_len» ≤ maxID)
