@@ -1,12 +1,11 @@
 -- `choose_after_first_flight` meets its contract: the tests in the order of the code are the paper's order.
 use mathlib.Core.Bool.{true}
-use mathlib.Core.Path.{_≡_, sym, ap, _∙_}
+use mathlib.Core.Path.{_≡_, sym, _∙_}
 use borrow.Author.Needs.{needs}
 use borrow.Author.Tests.{not-true, not-false}
 use denote.Ref.{now}
 use Rattle.versions.specs.Pairs.{pairsKeepRule}
 use Rattle.versions.specs.Table.{tableKeepsRule}
-use Rattle.information.specs.declared.Presence.{Presence}
 use Rattle.server.specs.FirstFlight.{withInformation, decide}
 use Rattle.server.proofs.choose_after_first_flight.Statement.{statement}
 use Rattle.server.proofs.choose_after_first_flight.Tie as tie

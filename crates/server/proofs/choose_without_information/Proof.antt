@@ -1,5 +1,4 @@
 -- `choose_without_information` meets its contract.
-use mathlib.Core.Path.{sym, _∙_}
 use borrow.Author.Needs.{needs}
 use Rattle.server.proofs.choose_without_information.Statement.{statement}
 use Rattle.server.proofs.choose_without_information.Tie as tie

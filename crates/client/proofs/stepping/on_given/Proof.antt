@@ -3,7 +3,9 @@ use mathlib.Core.Path.{sym, ap, _∙_}
 use native.Mathlib.Omega.{arith}
 use denote.Ref.{now}
 use Rattle.information.specs.Information.{informationReply}
-use Rattle.client.proofs.Outcomes.{Given-read, given-refused, given-known, given-read}
+use Rattle.information.specs.declared.Sender.the-variants.{Server}
+use Rattle.information.proofs.Readings.{Known, read-known}
+use Rattle.client.proofs.Outcomes.{given-refused, given-read}
 use Rattle.client.proofs.stepping.on_given.Statement.{statement}
 use Rattle.client.proofs.stepping.on_given.Tie as tie
 use Rattle.client.proofs.stepping.on_given.Reads as reads
@@ -13,9 +15,13 @@ use Rattle.client.proofs.stepping.judge_outcome.Reads as judge-outcome-
 use Rattle.information.proofs.read_information.Reads as read-information-reads
 
 -- what the reader found
-read : (c : tie.After-known-told2) →
-    Given-read (c .before .before .before .before .before .args .attempt) (c .before .before .before .before .before .args .in-use) (now (c .before .before .before .before .before .args .information)) (c .before .chosen .given .0 .0) (c .before .chosen .given .0 .1 .0)
-read c = given-known (c .before .before .before .before .before .args .attempt) (c .before .before .before .before .before .args .in-use) (now (c .before .before .before .before .before .args .information)) _ _ (sym (ap informationReply (c .before .chosen .given .1)) ∙ c .before .before .before .read-information .ensures)
+known :
+    (c : tie.After-known-told2) →
+    let read = c .before .chosen .given .0 in
+    Known Server (now (c .before .before .before .before .before .args .information)) (read .0) (read .1 .0)
+known c =
+    read-known Server (now (c .before .before .before .before .before .args .information)) _ _
+    (sym (ap informationReply (c .before .chosen .given .1)) ∙ c .before .before .before .read-information .ensures)
 
 -- src/stepping.rt:222:11
 read-information-requires : tie.Need-read-information-requires
@@ -36,19 +42,19 @@ enum-known-chosen c = search needs
 -- src/stepping.rt:227:52
 sub-judge-outcome : tie.Need-sub-judge-outcome
 sub-judge-outcome c =
-    let r = read c in
+    let r = known c in
     rw (r .start-is, r .end-is) (r .long-enough)
 
 -- src/stepping.rt:227:52
 part-judge-outcome-start : tie.Need-part-judge-outcome-start
 part-judge-outcome-start c =
-    let r = read c in
+    let r = known c in
     rw (r .start-is, r .end-is) (r .long-enough)
 
 -- src/stepping.rt:227:52
 part-judge-outcome-end : tie.Need-part-judge-outcome-end
 part-judge-outcome-end c =
-    let r = read c in
+    let r = known c in
     rw (r .end-is) (omega arith)
 
 -- src/stepping.rt:227:13
@@ -67,7 +73,7 @@ returns c =
 returns-2 : tie.Need-returns-2
 returns-2 c =
     let g = c .before .before .before .before .before .before .before .args in
-    c .judge-outcome .ensures ∙ given-read (g .attempt) (g .in-use) (now (g .information)) _ _ (read (c .before .before))
+    c .judge-outcome .ensures ∙ given-read (g .attempt) (g .in-use) (now (g .information)) _ _ (known (c .before .before))
 
 pub on-given-spec : {M : Type 1} → statement M
 on-given-spec =
