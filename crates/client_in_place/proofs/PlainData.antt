@@ -58,7 +58,8 @@ vals D x = D .val x ∷ []
 abbrev pub IsData : (D : PlainData) → D .row .Denot → Type 0
 IsData D x = Is (D .row) x (vals D x)
 
-module _ {M : Type 1} {𝓤 : URA M} {H : Heap 𝓤} {A : Atoms 𝓤} {K : Type 0} {W : Given 𝓤 H A} {Γ : List (Item 𝓤)} {G : Goal 𝓤 H} where
+module _ {M : Type 1} {𝓤 : URA M} {H : Heap 𝓤} {A : Atoms 𝓤} {K : Type 0} {W : Given 𝓤 H A} {Γ : List (Item 𝓤)}
+    {G : Goal 𝓤 H} where
   -- What is owned tells that the machine value is the value's
   pub seen : K → (D : PlainData) (x : D .row .Denot) (vs : List Val) →
       (Is (D .row) x vs → Seq K W (‵ (D .row .own x vs) ∷ Γ) G) → Seq K W (‵ (D .row .own x vs) ∷ Γ) G
@@ -68,10 +69,14 @@ module _ {M : Type 1} {𝓤 : URA M} {H : Heap 𝓤} {A : Atoms 𝓤} {K : Type 
   pub anew : K → (D : PlainData) (x : D .row .Denot) → IsData D x → Step K W (‵ (D .row .own x (vals D x)) ∷ Γ) G Γ G
   anew t D x is = owned t (D .row) (Is (D .row)) (D .makes 𝓤 H A W) x (vals D x) is
 
-module _ {M : Type 1} {𝓤 : URA M} {H : Heap 𝓤} {A : Atoms 𝓤} {K : Type 0} {W : Given 𝓤 H A} {Γ : List (Item 𝓤)} {G : Goal 𝓤 H} where
-  -- A lent value: the borrow is opened, its cell holds the machine value
+module _ {M : Type 1} {𝓤 : URA M} {H : Heap 𝓤} {A : Atoms 𝓤} {K : Type 0} {W : Given 𝓤 H A} {Γ : List (Item 𝓤)}
+    {G : Goal 𝓤 H} where
+  -- A lent value: its borrow is opened, and its cell holds the machine value
   pub opens-lent : K → Soaks G → (D : PlainData) {κ : Lft} {q : Share} (was : D .row .Denot) {γ : GName} (b o : ℕ) →
-      (IsData D was → Seq K W (‵ (cellAt fullShare (D .row .mir) (vals D was) b o) ∷ ‵ (D .row .own was (vals D was)) ∷ ‵ (fobor κ q (Body (mem (D .row)) b o γ)) ∷ ‵ (fobs γ (D .row .coded .code was)) ∷ ‵ (fauth γ (D .row .coded .code was)) ∷ Γ) G) →
+      (IsData D was → Seq K W
+      (‵ (cellAt fullShare (D .row .mir) (vals D was) b o) ∷ ‵ (D .row .own was (vals D was)) ∷
+      ‵ (fobor κ q (Body (mem (D .row)) b o γ)) ∷
+      ‵ (fobs γ (D .row .coded .code was)) ∷ ‵ (fauth γ (D .row .coded .code was)) ∷ Γ) G) →
       Seq K W (‵ (fobs γ (D .row .coded .code was)) ∷ ‵ (fbor κ (Body (mem (D .row)) b o γ)) ∷ ‵ (flft κ q) ∷ Γ) G
   opens-lent t z D was b o k =
       opens t z (D .row) {h = was} b o (λ vs.
@@ -79,8 +84,11 @@ module _ {M : Type 1} {𝓤 : URA M} {H : Heap 𝓤} {A : Atoms 𝓤} {K : Type 
       move t (1 ∷ []) $ seen t D was (vals D was) (λ is. move t (1 ∷ 0 ∷ []) $ k is))
 
   -- and closed at the value that was stored over it
-  pub closes-lent : K → Soaks G → (D : PlainData) {κ : Lft} {q : Share} {u v : Gv} (was left : D .row .Denot) {γ : GName} (b o : ℕ) → IsData D left →
+  pub closes-lent : K → Soaks G → (D : PlainData) {κ : Lft} {q : Share} {u v : Gv} (was left : D .row .Denot)
+      {γ : GName} (b o : ℕ) → IsData D left →
       Step K W (‵ (fobs γ (D .row .coded .code left)) ∷ ‵ (fbor κ (Body (mem (D .row)) b o γ)) ∷ ‵ (flft κ q) ∷ Γ) G
-      (‵ (cellAt fullShare (D .row .mir) (vals D left) b o) ∷ ‵ (D .row .own was (vals D was)) ∷ ‵ (fobor κ q (Body (mem (D .row)) b o γ)) ∷ ‵ (fobs γ u) ∷ ‵ (fauth γ v) ∷ Γ) G
+      (‵ (cellAt fullShare (D .row .mir) (vals D left) b o) ∷ ‵ (D .row .own was (vals D was)) ∷
+      ‵ (fobor κ q (Body (mem (D .row)) b o γ)) ∷ ‵ (fobs γ u) ∷ ‵ (fauth γ v) ∷ Γ) G
   closes-lent t z D was left b o is =
-      step (λ s. move t (1 ∷ []) $ drop t $ anew t D left is $ move t (1 ∷ 0 ∷ []) $ closes t z (D .row) left (vals D left) b o $ s)
+      step (λ s. move t (1 ∷ []) $ drop t $ anew t D left is $ move t (1 ∷ 0 ∷ []) $
+      closes t z (D .row) left (vals D left) b o $ s)
