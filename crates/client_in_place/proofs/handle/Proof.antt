@@ -184,15 +184,15 @@ module _ {M : Type 1} (𝓤 : URA M) (H : Heap 𝓤) (A : Atoms 𝓤) (W : Given
   said r = exE 𝓤 _ (λ ws. snd∗ 𝓤 (sem 𝓤 H A (lasts step.ended (κ′, tt) passed ws)) (Facts r))
 
   -- The exit: what the `ensures` says, then the tokens, then what the parameters and the answer own
-  abbrev Left : Stepped → List (Item 𝓤)
-  Left r =
+  abbrev Remains : Stepped → List (Item 𝓤)
+  Remains r =
       ‵ (fobs γ (attempt.the-row .coded .code (r .attempt))) ∷ ‵ (fbor κ (Body (mem attempt.the-row) b o γ)) ∷
       ‵ (flft κ q) ∷ Token ∷ ‵ Own ∷ []
 
   exits : (r : Stepped) → Told r → Kept r → IsData TheEvent e → IsData TheAnswer (r .answer) →
-      ent 𝓤 (⋆ 𝓤 H A (Left r)) (Post (TheAnswer .val (r .answer)))
+      ent 𝓤 (⋆ 𝓤 H A (Remains r)) (Post (TheAnswer .val (r .answer)))
   exits r told kept e-is result-is =
-      qed W (Left r) ∵
+      qed W (Remains r) ∵
       suffices ! _
       (ends-at 𝓤 H A handle.ended stayed (handle.clauses 𝓤 H A mem″ run) W ((κs, qs, tt, args, at), tt)
       (TheAnswer .val (r .answer)) (r .answer) (r .attempt, (tt, (tt, tt))) (tt, (tt, (tt, tt)))) $
