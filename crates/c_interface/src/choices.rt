@@ -7,7 +7,6 @@ ghost use Rattle.versions.specs.Version.{reserved};
 ghost use Rattle.versions.specs.Wire.{entries, entryAt};
 ghost use Rattle.server.specs.FirstFlight.{decide};
 ghost use Rattle.c_interface.specs.Numbers.{flag, refusalOf, leaving, itself, isThere, valueOr, presenceOf, forKnown, actNumber};
-
 use crate::NOT_VALID;
 use information::Presence;
 use server::Decision;

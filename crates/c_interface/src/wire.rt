@@ -6,7 +6,6 @@ ghost use Rattle.invariants.specs.Header.{readHeader};
 ghost use Rattle.invariants.specs.Packet.{negotiationPacket};
 ghost use Rattle.information.specs.Information.{readInformation, informationToWrite};
 ghost use Rattle.c_interface.specs.Numbers.{refusalOf, leaving, itself, formNumber, formVersion, formPlaces, senderOf, forKnown, chosenIn, startIn, endIn};
-
 use crate::NOT_VALID;
 use information::Information;
 use information::Sender;
@@ -43,13 +42,27 @@ pub extern "C" fn qv_read_header(
         } => {
             *form = 1;
             *version = number;
-            *places = [destination.start, destination.end, source.start, source.end, rest.start, rest.end];
+            *places = [
+                destination.start,
+                destination.end,
+                source.start,
+                source.end,
+                rest.start,
+                rest.end,
+            ];
             0
         }
         Header::Short { destination, rest } => {
             *form = 2;
             *version = 0;
-            *places = [destination.start, destination.end, 0, 0, rest.start, rest.end];
+            *places = [
+                destination.start,
+                destination.end,
+                0,
+                0,
+                rest.start,
+                rest.end,
+            ];
             0
         }
         Header::VersionNegotiation {
@@ -59,7 +72,14 @@ pub extern "C" fn qv_read_header(
         } => {
             *form = 3;
             *version = 0;
-            *places = [destination.start, destination.end, source.start, source.end, list.start, list.end];
+            *places = [
+                destination.start,
+                destination.end,
+                source.start,
+                source.end,
+                list.start,
+                list.end,
+            ];
             0
         }
     }

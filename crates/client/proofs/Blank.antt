@@ -10,6 +10,7 @@ use lib.Dec.{leb, ltb}
 use lib.ListN.{length}
 use borrow.Author.Tests.{leb-true, ltb-false, not-false}
 use Rattle.refusals.specs.Rule.{Rule, Rule._when_, lowest}
+use Rattle.versions.proofs.Lists.{table-counts}
 use Rattle.refusals.proofs.Rules.{both-true, lowest-any}
 use Rattle.versions.specs.Choice.{preferred}
 use Rattle.versions.specs.Limits.{maxTable}
@@ -71,13 +72,6 @@ module _ (P : Attempt → Type 0) where
         subst P (r .reached) (run-any (startOf x .attempt) (r .events) started)
 
 -- The counts
-
-pub table-counts : (t : List ℕ) → tableKeepsRule t ≡ true → (1 ≤ length t) × (length t ≤ maxTable)
-unfolding tableKeepsRule
-table-counts t h =
-    let a = both-true (leb 1 (length t)) _ h in
-    let b = both-true (leb (length t) maxTable) _ (a .1) in
-    (leb-true _ _ (a .0), leb-true _ _ (b .0))
 
 -- An accepted start breaks no rule
 not-broken : {accepted : Bool} (broken : Bool) → (broken ≡ true → accepted ≡ false) → accepted ≡ true → broken ≡ false
