@@ -106,14 +106,45 @@ pub extern "C" fn qv_server_choice(
     ensures answer { λ r. ⌜ r ≡ refusalOf (forKnown (λ p. decide (now (readable .entry)) (now (accepted .entry)) (now (pairs .entry)) version p (now (information .entry))) (presenceOf presence)) ⌝ }
     ensures left { λ _. ⌜ now (decision .exit) ≡ leaving actNumber (forKnown (λ p. decide (now (readable .entry)) (now (accepted .entry)) (now (pairs .entry)) version p (now (information .entry))) (presenceOf presence)) (now (decision .entry)) ⌝ }
 {
-    if 1 < presence {
-        return NOT_VALID;
+    if presence == 0 {
+        return choice_with(
+            readable,
+            accepted,
+            pairs,
+            version,
+            Presence::Missing,
+            information,
+            decision,
+        );
     }
-    let mut known = Presence::Missing;
     if presence == 1 {
-        known = Presence::Given;
+        return choice_with(
+            readable,
+            accepted,
+            pairs,
+            version,
+            Presence::Given,
+            information,
+            decision,
+        );
     }
-    match choose_after_first_flight(readable, accepted, pairs, version, known, information) {
+    NOT_VALID
+}
+
+// The server's choice with Version Information that is known to be missing or given.
+fn choice_with(
+    readable: &[u32],
+    accepted: &[u32],
+    pairs: &[[u32; 2]],
+    version: u32,
+    presence: Presence,
+    information: &[u8],
+    decision: &mut u32,
+) -> u32
+    ensures answer { λ r. ⌜ r ≡ refusalOf (decide (now (readable .entry)) (now (accepted .entry)) (now (pairs .entry)) version presence (now (information .entry))) ⌝ }
+    ensures left { λ _. ⌜ now (decision .exit) ≡ leaving actNumber (decide (now (readable .entry)) (now (accepted .entry)) (now (pairs .entry)) version presence (now (information .entry))) (now (decision .entry)) ⌝ }
+{
+    match choose_after_first_flight(readable, accepted, pairs, version, presence, information) {
         Decision::Refused(refusal) => refusal.0 as u32,
         Decision::Negotiate => {
             *decision = 0;
