@@ -46,7 +46,7 @@ fitting r h =
       table = leb-true _ _ (t .0);
       destination = leb-true _ _ (d .0);
       source = leb-true _ _ (s .0);
-      mark = both-true (markFits (r .«end_mark») (r .«end_value»)) _ (b .1) .0
+      mark = both-true (markFits (r .«end_mark») (r .«end_value»)) _ (b .1) .0;
     }
 
 -- The counts of its attempt

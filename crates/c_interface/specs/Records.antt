@@ -61,7 +61,7 @@ attemptOf r =
       attempted = r .attempted;
       acted = eqb (r .acted) 1;
       heard = eqb (r .heard) 1;
-      end = endOf (r .«end_mark») (r .«end_value»)
+      end = endOf (r .«end_mark») (r .«end_value»);
     }
 
 -- The record of an attempt
@@ -81,7 +81,7 @@ recordOf a =
       heard = flag (a .heard);
       «end_mark» = markOf (a .end);
       «end_value» = markValue (a .end);
-      unused = 0
+      unused = 0;
     }
 
 -- Events: 0 a datagram, 1 a packet was processed, 2 an outcome with information given, 3 one with it missing; the
@@ -138,5 +138,5 @@ knownRecord =
       heard = 0x47;
       «end_mark» = 0x48;
       «end_value» = 0x49;
-      unused = 0x4a
+      unused = 0x4a;
     }

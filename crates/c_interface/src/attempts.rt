@@ -8,7 +8,6 @@ ghost use Rattle.client.specs.Start.{inputOf, startReply};
 ghost use Rattle.client.specs.Step.{countsFit, stepOf, answerReply};
 ghost use Rattle.c_interface.specs.Numbers.{flag, notValid, refusalOf};
 ghost use Rattle.c_interface.specs.Records.{isRecord, markFits, attemptOf, recordOf, endOf, markOf, markValue, leftAfter, stepRecord, startRecord, knownRecord, recordSize, shownLeft};
-
 use crate::NOT_VALID;
 use crate::RECORD_SIZE;
 use crate::Record;
@@ -273,7 +272,11 @@ pub extern "C" fn qv_start(
 // The own list of an attempt, for the client's Version Information: its versions and their count. Refusal: 255 for a
 // record that no attempt has, which leaves both as found.
 #[no_mangle]
-pub extern "C" fn qv_own_list(held: Record, versions: &mut [u32; MAX_TABLE], count: &mut usize) -> u32
+pub extern "C" fn qv_own_list(
+    held: Record,
+    versions: &mut [u32; MAX_TABLE],
+    count: &mut usize,
+) -> u32
     ensures answer { λ r. ⌜ r ≡ cond (isRecord held) 0 notValid ⌝ }
     ensures list { λ _. ⌜ now (versions .exit) ≡ cond (isRecord held) (padded maxTable (ownOf (attemptOf held))) (now (versions .entry)) ⌝ }
     ensures counted { λ _. ⌜ now (count .exit) ≡ cond (isRecord held) (length (ownOf (attemptOf held))) (now (count .entry)) ⌝ }

@@ -24,7 +24,7 @@ step-any-requires : tie.Need-step-any-requires
 step-any-requires c κs = search needs
 
 encode-requires : tie.Need-encode-requires
-encode-requires c κs = 
+encode-requires c κs =
     let at = c .before in
     let g = at .before .before .before .args in
     rw (ap (λ (s : After). s .attempt) (stepped at))
@@ -34,7 +34,7 @@ refusal-number-requires : tie.Need-refusal-number-requires
 refusal-number-requires c κs = search needs
 
 returns : tie.Need-returns
-returns c = 
+returns c =
     let at = c .before .before .before in
     rw (c .before .encode .ensures, c .refusal-number .ensures) (ap leftAfter (stepped at))
 

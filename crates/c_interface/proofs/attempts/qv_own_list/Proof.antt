@@ -22,7 +22,7 @@ own-list-requires : tie.Need-own-list-requires
 own-list-requires c κs = search needs
 
 returns-2 : tie.Need-returns-2
-returns-2 c = 
+returns-2 c =
     let h = c .before .before .before .before .before .args .held in
     let e : isRecord h ≡ true = sym (c .before .before .before .before .is-record .ensures) ∙ not-false _ (c .before .before .before .if1 .left) in
     let f : c .before .own-list .result ≡ ownListOf (attemptOf h) = c .before .own-list .ensures ∙ ap ownListOf (c .before .before .decode .ensures) in
