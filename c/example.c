@@ -1,0 +1,295 @@
+/*
+ * A client and a server walk-through of quic_version.h, its layout, and NULL with length 0.
+ *
+ *     gcc -std=c99 -pedantic-errors -Wall -Wextra -Werror -Iinclude c/example.c \
+ *         target/staticlib/libc_interface.a -o example
+ */
+#include "quic_version.h"
+
+#include <stdio.h>
+#include <stdlib.h>
+#include <string.h>
+
+/* The layout, when this is compiled: a false condition is an array of -1 places. */
+#define ASSERT_LAYOUT(name, condition) typedef char name[(condition) ? 1 : -1]
+#define AT(field, place) (offsetof(struct qv_attempt, field) == (place))
+ASSERT_LAYOUT(layout_size, sizeof(struct qv_attempt) == 272);
+ASSERT_LAYOUT(layout_started_size, sizeof(struct qv_started) == 280);
+ASSERT_LAYOUT(layout_refusal, offsetof(struct qv_started, refusal) == 272);
+ASSERT_LAYOUT(layout_pair, sizeof(struct qv_pair) == 8);
+ASSERT_LAYOUT(layout_size_t, sizeof(size_t) == 8);
+ASSERT_LAYOUT(layout_rows, AT(rows, 0));
+ASSERT_LAYOUT(layout_table, AT(table, 128));
+ASSERT_LAYOUT(layout_destination, AT(destination, 192));
+ASSERT_LAYOUT(layout_source, AT(source, 212));
+ASSERT_LAYOUT(layout_table_len, AT(table_len, 232));
+ASSERT_LAYOUT(layout_destination_len, AT(destination_len, 236));
+ASSERT_LAYOUT(layout_source_len, AT(source_len, 240));
+ASSERT_LAYOUT(layout_original, AT(original, 244));
+ASSERT_LAYOUT(layout_attempted, AT(attempted, 248));
+ASSERT_LAYOUT(layout_acted, AT(acted, 252));
+ASSERT_LAYOUT(layout_heard, AT(heard, 256));
+ASSERT_LAYOUT(layout_end_mark, AT(end_mark, 260));
+ASSERT_LAYOUT(layout_end_value, AT(end_value, 264));
+ASSERT_LAYOUT(layout_unused, AT(unused, 268));
+
+#define EXPECT(condition) expect((condition), #condition, __LINE__)
+
+static void expect(int holds, const char *what, int line)
+{
+    if (!holds) {
+        fprintf(stderr, "c/example.c:%d: not so: %s\n", line, what);
+        exit(1);
+    }
+}
+
+/* The layout, as the library has it: field by field. */
+static void layout(void)
+{
+    const struct qv_attempt record = qv_known_record();
+    size_t i;
+
+    EXPECT(qv_interface_version() == QV_INTERFACE_VERSION);
+    EXPECT(qv_record_size() == sizeof(struct qv_attempt));
+    for (i = 0; i < QV_MAX_TABLE; i++) {
+        EXPECT(record.rows[i] == UINT64_C(0x1112131415161718));
+        EXPECT(record.table[i] == 0x21222324u);
+    }
+    for (i = 0; i < QV_MAX_ID; i++) {
+        EXPECT(record.destination[i] == 0x31);
+        EXPECT(record.source[i] == 0x32);
+    }
+    EXPECT(record.table_len == 0x41);
+    EXPECT(record.destination_len == 0x42);
+    EXPECT(record.source_len == 0x43);
+    EXPECT(record.original == 0x44);
+    EXPECT(record.attempted == 0x45);
+    EXPECT(record.acted == 0x46);
+    EXPECT(record.heard == 0x47);
+    EXPECT(record.end_mark == 0x48);
+    EXPECT(record.end_value == 0x49);
+    EXPECT(record.unused == 0x4a);
+}
+
+/* A first flight in version 12, as far as the version layer reads it. */
+static const uint8_t first_flight[] = {0xc0, 0,    0, 0,    12,   2,
+                                       0xaa, 0xbb, 1, 0xcc, 0xff};
+
+/* The server: a first flight in, a Version Negotiation packet out. Returns its count of bytes. */
+static size_t server(uint8_t packet[QV_MAX_PACKET])
+{
+    static const uint32_t readable[] = {14, 13, 10};
+    static const uint32_t accepted[] = {14, 13, 10};
+    static const uint8_t expected[] = {0xc0, 0, 0, 0,  0, 1, 0xcc, 2, 0xaa, 0xbb, 0,
+                                       0,    0, 14, 0, 0, 0, 13,   0, 0,    0,    10};
+    uint32_t form = 0, version = 0, decision = 0;
+    size_t places[QV_PLACES], count = 0;
+
+    /* What came. */
+    EXPECT(qv_read_header(first_flight, sizeof first_flight, 0, &form, &version, places) == QV_OK);
+    EXPECT(form == QV_LONG && version == 12);
+    EXPECT(places[QV_DESTINATION_START] == 6 && places[QV_DESTINATION_END] == 8);
+    EXPECT(places[QV_SOURCE_START] == 9 && places[QV_SOURCE_END] == 10);
+    EXPECT(places[QV_REST_START] == 10 && places[QV_REST_END] == 11);
+
+    /* What to do: 12 cannot be read here. There are no pairs, and no information to look at. */
+    EXPECT(qv_server_choice(readable, 3, accepted, 3, NULL, 0, version, QV_MISSING, NULL, 0,
+                            &decision) == QV_OK);
+    EXPECT(decision == QV_NEGOTIATE);
+
+    /* A buffer that is too short is left as found, and the count too. */
+    memset(packet, 0x77, QV_MAX_PACKET);
+    EXPECT(qv_write_version_negotiation(first_flight, sizeof first_flight, accepted, 3, 64, packet,
+                                        sizeof expected - 1, &count) == QV_NO_ROOM_FOR_PACKET);
+    EXPECT(packet[0] == 0x77 && count == 0);
+
+    EXPECT(qv_write_version_negotiation(first_flight, sizeof first_flight, accepted, 3, 64, packet,
+                                        QV_MAX_PACKET, &count) == QV_OK);
+    EXPECT(count == sizeof expected && memcmp(packet, expected, count) == 0);
+    EXPECT(packet[count] == 0x77);
+    return count;
+}
+
+/* The server's choice after a first flight that it can read: 3, which is compatible with 4. */
+static void server_choice(void)
+{
+    static const uint32_t readable[] = {3};
+    static const uint32_t accepted[] = {4, 3};
+    static const struct qv_pair there[] = {{3, 4}};
+    static const struct qv_pair back[] = {{4, 3}};
+    static const uint8_t information[] = {0, 0, 0, 3, 0, 0, 0, 3, 0, 0, 0, 4};
+    uint32_t decision = 99, refusal;
+
+    EXPECT(qv_server_choice(readable, 1, accepted, 2, there, 1, 3, QV_GIVEN, information,
+                            sizeof information, &decision) == QV_OK);
+    EXPECT(decision == 4);
+    EXPECT(qv_server_choice(readable, 1, accepted, 2, back, 1, 3, QV_GIVEN, information,
+                            sizeof information, &decision) == QV_OK);
+    EXPECT(decision == 3);
+
+    /* Malformed information: close with the code. The decision is left as found. */
+    refusal = qv_server_choice(readable, 1, accepted, 2, there, 1, 3, QV_GIVEN, information, 3,
+                               &decision);
+    EXPECT(refusal == QV_INFORMATION_TOO_SHORT && decision == 3);
+    EXPECT(qv_close_code((uint8_t)refusal, QV_CALL_READING) == QV_TRANSPORT_PARAMETER_ERROR);
+    EXPECT(qv_close_code((uint8_t)refusal, QV_CALL_WRITING) == QV_CLOSE_NONE);
+}
+
+/* An attempt with table 14, 12, 10 whose first flight goes out in 12. */
+static struct qv_attempt start(void)
+{
+    static const uint32_t table[] = {14, 12, 10};
+    static const uint8_t destination[] = {0xaa, 0xbb};
+    static const uint8_t source[] = {0xcc};
+    const struct qv_started started =
+        qv_start(table, 3, NULL, 0, 12, destination, sizeof destination, source, sizeof source);
+
+    EXPECT(started.refusal == QV_OK);
+    EXPECT(started.attempt.attempted == 12 && started.attempt.end_mark == QV_OPEN);
+    return started.attempt;
+}
+
+/* The client, to its end. The packet is the server's: it lists 14, 13 and 10. */
+static void client(const uint8_t *packet, size_t packet_len)
+{
+    /* What the handshake authenticated: Chosen 14, Available 13 and 14. */
+    static const uint8_t authenticated[] = {0, 0, 0, 14, 0, 0, 0, 13, 0, 0, 0, 14};
+    struct qv_attempt attempt = start();
+    uint32_t own[QV_MAX_TABLE], chosen = 0, version = 0;
+    uint8_t information[QV_MAX_INFORMATION];
+    size_t own_count = 0, count = 0, from = 0, to = 0;
+
+    /* No Version Negotiation packet: ignored. */
+    EXPECT(qv_event(&attempt, QV_DATAGRAM, 0, first_flight, sizeof first_flight) ==
+           QV_NOT_VERSION_NEGOTIATION);
+
+    /* The server's packet: attempt 14 now. */
+    EXPECT(qv_event(&attempt, QV_DATAGRAM, 0, packet, packet_len) == QV_OK);
+    EXPECT(attempt.attempted == 14 && attempt.end_mark == QV_OPEN);
+
+    /* The new first flight has the own list in its Version Information. */
+    EXPECT(qv_own_list(attempt, own, &own_count) == QV_OK);
+    EXPECT(own_count == 1 && own[0] == 14);
+    EXPECT(qv_write_information(QV_CLIENT, attempt.attempted, own, own_count, information,
+                                sizeof information, &count) == QV_OK);
+    EXPECT(count == 8 && information[3] == 14 && information[7] == 14);
+    EXPECT(qv_read_information(QV_CLIENT, information, count, &chosen, &from, &to) == QV_OK);
+    EXPECT(chosen == 14 && from == 4 && to == 8);
+    EXPECT(qv_entry(information + from, to - from, 0, &version) == 1 && version == 14);
+    EXPECT(qv_entry(information + from, to - from, 1, &version) == 0 && version == 14);
+
+    /* A genuine packet came; a second Version Negotiation packet is too late. */
+    EXPECT(qv_event(&attempt, QV_PACKET_PROCESSED, 0, NULL, 0) == QV_OK);
+    EXPECT(qv_event(&attempt, QV_DATAGRAM, 0, packet, packet_len) == QV_TOO_LATE);
+
+    /* The handshake ends in 14. */
+    EXPECT(qv_event(&attempt, QV_OUTCOME, 14, authenticated, sizeof authenticated) == QV_OK);
+    EXPECT(attempt.end_mark == QV_COMPLETED && attempt.end_value == 14);
+}
+
+/* The same client, and a server whose Available Versions are empty: 74, close with 0x11. */
+static void client_refuses(const uint8_t *packet, size_t packet_len)
+{
+    static const uint8_t authenticated[] = {0, 0, 0, 14};
+    struct qv_attempt attempt = start();
+
+    EXPECT(qv_event(&attempt, QV_DATAGRAM, 0, packet, packet_len) == QV_OK);
+    EXPECT(qv_event(&attempt, QV_OUTCOME, 14, authenticated, sizeof authenticated) ==
+           QV_AVAILABLE_EMPTY);
+    EXPECT(attempt.end_mark == QV_CLOSED && attempt.end_value == QV_AVAILABLE_EMPTY);
+    EXPECT(qv_close_code(QV_AVAILABLE_EMPTY, QV_CALL_READING) == QV_VERSION_NEGOTIATION_ERROR);
+}
+
+/* NULL is allowed where the length is 0. */
+static void null_with_length_0(void)
+{
+    static const uint32_t one[] = {1};
+    struct qv_started started;
+    uint32_t form = 7, version = 7, chosen = 7, decision = 7;
+    size_t places[QV_PLACES] = {7, 7, 7, 7, 7, 7}, count = 7, from = 7, to = 7;
+
+    EXPECT(qv_is_table(NULL, 0) == 0);
+    EXPECT(qv_are_pairs(NULL, 0) == 1);
+    EXPECT(qv_read_header(NULL, 0, 0, &form, &version, places) == QV_TRUNCATED);
+    EXPECT(form == 7 && version == 7 && places[QV_REST_END] == 7);
+    EXPECT(qv_write_version_negotiation(NULL, 0, NULL, 0, 0, NULL, 0, &count) == QV_TRUNCATED);
+    EXPECT(qv_write_version_negotiation(first_flight, sizeof first_flight, one, 1, 0, NULL, 0,
+                                        &count) == QV_NO_ROOM_FOR_PACKET);
+    EXPECT(qv_read_information(QV_SERVER, NULL, 0, &chosen, &from, &to) ==
+           QV_INFORMATION_TOO_SHORT);
+    EXPECT(qv_write_information(QV_SERVER, 1, NULL, 0, NULL, 0, &count) ==
+           QV_NO_ROOM_FOR_INFORMATION);
+    EXPECT(chosen == 7 && from == 7 && to == 7 && count == 7);
+    EXPECT(qv_entry(NULL, 0, 0, &version) == 0);
+    EXPECT(qv_choose(one, 1, NULL, 0, &version) == QV_NOTHING_IN_COMMON);
+    EXPECT(qv_choose(NULL, 0, NULL, 0, &version) == QV_BAD_TABLE);
+    EXPECT(qv_choose_from_bytes(one, 1, NULL, 0, &version) == QV_NOTHING_IN_COMMON);
+    EXPECT(qv_server_choice(one, 1, one, 1, NULL, 0, 1, QV_GIVEN, NULL, 0, &decision) ==
+           QV_INFORMATION_TOO_SHORT);
+    EXPECT(version == 7 && decision == 7);
+
+    /* Empty connection IDs. */
+    started = qv_start(one, 1, NULL, 0, 1, NULL, 0, NULL, 0);
+    EXPECT(started.refusal == QV_OK);
+    EXPECT(qv_event(&started.attempt, QV_DATAGRAM, 0, NULL, 0) == QV_NOT_VERSION_NEGOTIATION);
+    EXPECT(qv_event(&started.attempt, QV_OUTCOME_WITHOUT_INFORMATION, 1, NULL, 0) == QV_OK);
+    EXPECT(started.attempt.end_mark == QV_COMPLETED && started.attempt.end_value == 1);
+}
+
+/* A record that no attempt has, and kinds that the header does not name: 255. */
+static void not_valid(void)
+{
+    static const uint8_t information[] = {0, 0, 0, 1, 0, 0, 0, 1};
+    static const uint32_t one[] = {1};
+    struct qv_attempt attempt = start(), found;
+    uint32_t own[QV_MAX_TABLE] = {7}, chosen = 7, decision = 7;
+    size_t count = 7, from = 7, to = 7;
+
+    attempt.table_len = QV_MAX_TABLE + 1;
+    found = attempt;
+    EXPECT(qv_event(&attempt, QV_PACKET_PROCESSED, 0, NULL, 0) == QV_NOT_VALID);
+    EXPECT(memcmp(&attempt, &found, sizeof attempt) == 0);
+    EXPECT(qv_own_list(attempt, own, &count) == QV_NOT_VALID && own[0] == 7 && count == 7);
+    attempt = start();
+    found = attempt;
+    EXPECT(qv_event(&attempt, 4, 0, NULL, 0) == QV_NOT_VALID);
+    EXPECT(memcmp(&attempt, &found, sizeof attempt) == 0);
+    EXPECT(qv_read_information(2, information, sizeof information, &chosen, &from, &to) ==
+           QV_NOT_VALID);
+    EXPECT(qv_write_information(2, 1, one, 1, NULL, 0, &count) == QV_NOT_VALID);
+    EXPECT(qv_server_choice(one, 1, one, 1, NULL, 0, 1, 2, information, sizeof information,
+                            &decision) == QV_NOT_VALID);
+    EXPECT(chosen == 7 && decision == 7 && from == 7 && to == 7 && count == 7);
+}
+
+static void small_calls(void)
+{
+    static const uint32_t table[] = {14, 12, 10};
+    static const uint32_t list[] = {10, 13, 14};
+    static const uint8_t bytes[] = {0, 0, 0, 10, 0, 0, 0, 13, 0, 0, 0, 12, 0};
+    static const struct qv_pair equal[] = {{3, 3}};
+    uint32_t version = 0;
+
+    EXPECT(qv_is_reserved(0x1a2a3a4au) == 1 && qv_is_reserved(0x1b2a3a4au) == 0);
+    EXPECT(qv_is_table(table, 3) == 1 && qv_are_pairs(equal, 1) == 0);
+    EXPECT(qv_choose(table, 3, list, 3, &version) == QV_OK && version == 14);
+    EXPECT(qv_choose_from_bytes(table, 3, bytes, sizeof bytes, &version) == QV_OK);
+    EXPECT(version == 12);
+}
+
+int main(void)
+{
+    uint8_t packet[QV_MAX_PACKET];
+    size_t count;
+
+    layout();
+    small_calls();
+    count = server(packet);
+    server_choice();
+    client(packet, count);
+    client_refuses(packet, count);
+    null_with_length_0();
+    not_valid();
+    puts("c example ok");
+    return 0;
+}

@@ -1,0 +1,202 @@
+//! The night's attack, packet by packet: what the old client did, and what this one answers.
+//!
+//!     cargo run --release --example incident
+
+use quic_version::{
+    choose_from_bytes, read_header, read_information, server_choice, versions, write_information,
+    write_version_negotiation, Attempt, Decision, End, Header, Refusal, Sender, MAX_INFORMATION,
+    MAX_PACKET,
+};
+
+/// The client's versions, best first. 10 is the old one, with the known weakness.
+const CLIENT_TABLE: [u32; 3] = [14, 12, 10];
+/// The server reads and accepts all of them; old clients still need 10.
+const SERVER_TABLE: [u32; 3] = [14, 12, 10];
+/// The version of the client's first flight.
+const ORIGINAL: u32 = 12;
+
+/// The connection IDs of the client's first flight.
+const DESTINATION: [u8; 4] = [0xd1, 0xd2, 0xd3, 0xd4];
+const SOURCE: [u8; 2] = [0x51, 0x52];
+
+fn main() -> Result<(), Refusal> {
+    println!("Client's versions, best first: {}.", words(&CLIENT_TABLE));
+    println!("Server's versions, best first: {}.", words(&SERVER_TABLE));
+    println!("Version 10 is old and weak. Both ends would meet in 12 or 14.");
+
+    title("1. The attack, and a server that sends an empty list");
+    let mut attempt = first_flight()?;
+    forged_packet(&mut attempt)?;
+    handshake(&mut attempt, &[])?;
+
+    title("2. The same attack, and a server that sends its list");
+    let mut attempt = first_flight()?;
+    forged_packet(&mut attempt)?;
+    handshake(&mut attempt, &SERVER_TABLE)?;
+
+    title("3. No attack: an old server that has 13 and 10 only");
+    let mut attempt = first_flight()?;
+    honest_packet(&mut attempt, &[13, 10])?;
+    handshake(&mut attempt, &[13, 10])?;
+    Ok(())
+}
+
+/// The client sends its first flight in version 12.
+fn first_flight() -> Result<Attempt, Refusal> {
+    let attempt = Attempt::start(&CLIENT_TABLE, &[], ORIGINAL, &DESTINATION, &SOURCE)?;
+    step(
+        "client",
+        &format!("sends a first flight in version {}", ORIGINAL),
+    );
+    bytes("packet", &long_packet(ORIGINAL));
+    Ok(attempt)
+}
+
+/// Someone on the path saw the first flight. He answers faster than the server, with the right
+/// connection IDs, and lists version 10 alone.
+fn forged_packet(attempt: &mut Attempt) -> Result<(), Refusal> {
+    step(
+        "attacker",
+        "reads its connection IDs and forges a Version Negotiation packet",
+    );
+    note("No key protects this packet. The client cannot tell it from a true one.");
+    answer_with(attempt, &[10])
+}
+
+/// The server itself cannot read version 12, and says so.
+fn honest_packet(attempt: &mut Attempt, table: &[u32]) -> Result<(), Refusal> {
+    let decision = server_choice(table, table, &[], ORIGINAL, None)?;
+    assert_eq!(decision, Decision::Negotiate);
+    step(
+        "server",
+        "cannot read 12 and sends a Version Negotiation packet",
+    );
+    answer_with(attempt, table)
+}
+
+/// A Version Negotiation packet reaches the client.
+fn answer_with(attempt: &mut Attempt, offered: &[u32]) -> Result<(), Refusal> {
+    let mut buffer = [0; MAX_PACKET];
+    let count = write_version_negotiation(&long_packet(ORIGINAL), offered, 64, &mut buffer)?;
+    let packet = &buffer[..count];
+    bytes("packet", packet);
+    if let Header::VersionNegotiation { list, .. } = read_header(packet, 0)? {
+        let listed: Vec<u32> = versions(list).collect();
+        note(&format!("It lists: {}.", words(&listed)));
+    }
+    let attempted = attempt.datagram(packet)?;
+    step("client", &format!("attempts version {} now", attempted));
+    Ok(())
+}
+
+/// The handshake in the attempted version ends. What the server says in it is authenticated: no
+/// attacker can change it.
+fn handshake(attempt: &mut Attempt, available: &[u32]) -> Result<(), Refusal> {
+    let in_use = attempt.attempted();
+    let mut buffer = [0; MAX_INFORMATION];
+    let count = write_information(Sender::Server, in_use, available, &mut buffer)?;
+    let information = &buffer[..count];
+    step(
+        "server",
+        "ends the handshake and sends its Version Information",
+    );
+    bytes("information", information);
+    note(&format!(
+        "Chosen Version {}, Available Versions: {}.",
+        in_use,
+        words(available)
+    ));
+
+    println!();
+    let old = match old_client(in_use, information) {
+        true => format!("\"every entry is fine\": goes on in version {}", in_use),
+        false => String::from("sees a better version in the list, and closes"),
+    };
+    step("old client", &old);
+    let answer = attempt.outcome(in_use, Some(information));
+    match answer {
+        Ok(version) => {
+            assert_eq!(attempt.end(), End::Completed(version));
+            step(
+                "this client",
+                &format!("completes with version {}", version),
+            );
+        }
+        Err(refusal) => {
+            assert_eq!(attempt.end(), End::Closed(refusal));
+            step("this client", &format!("refuses with {}", refusal.number()));
+            note(&format!("Cause: {}.", refusal));
+            if let Some(code) = refusal.close_code() {
+                note(&format!(
+                    "It closes the connection with code {:#04x}.",
+                    code
+                ));
+            }
+        }
+    }
+    explain(answer, information)
+}
+
+/// The old code's check, with its slip: a list without entries has no entry that is better.
+fn old_client(in_use: u32, information: &[u8]) -> bool {
+    let rank = |version| CLIENT_TABLE.iter().position(|entry| *entry == version);
+    let worse_or_unknown = |version| rank(version).map_or(true, |at| Some(at) >= rank(in_use));
+    versions(&information[4..]).all(worse_or_unknown)
+}
+
+fn explain(answer: Result<u32, Refusal>, information: &[u8]) -> Result<(), Refusal> {
+    match answer {
+        Err(Refusal::AvailableEmpty) => {
+            note("An empty list cannot bear out the packet that led here.");
+        }
+        Err(Refusal::Downgraded) => {
+            let read = read_information(Sender::Server, information)?;
+            let renewed = choose_from_bytes(&CLIENT_TABLE, read.available)?;
+            note(&format!(
+                "From the server's own list the client would have chosen {}, not {}.",
+                renewed, read.chosen
+            ));
+            note("So the packet that led here did not say what this server has.");
+        }
+        _ => note("The server's own list leads to the same choice as the packet did."),
+    }
+    Ok(())
+}
+
+/// A first flight, as far as the version layer reads it.
+fn long_packet(version: u32) -> Vec<u8> {
+    let mut packet = vec![0xc0];
+    packet.extend(version.to_be_bytes());
+    packet.push(DESTINATION.len() as u8);
+    packet.extend(DESTINATION);
+    packet.push(SOURCE.len() as u8);
+    packet.extend(SOURCE);
+    packet
+}
+
+// Printing.
+
+fn title(text: &str) {
+    println!("\n{}\n{}", text, "-".repeat(text.len()));
+}
+
+fn step(who: &str, what: &str) {
+    println!("{:>12}  {}", who, what);
+}
+
+fn note(text: &str) {
+    println!("{:>12}  {}", "", text);
+}
+
+fn bytes(what: &str, bytes: &[u8]) {
+    let shown: Vec<String> = bytes.iter().map(|byte| format!("{:02x}", byte)).collect();
+    println!("{:>12}  {}: {}", "", what, shown.join(" "));
+}
+
+fn words(versions: &[u32]) -> String {
+    if versions.is_empty() {
+        return String::from("none");
+    }
+    let words: Vec<String> = versions.iter().map(u32::to_string).collect();
+    words.join(", ")
+}

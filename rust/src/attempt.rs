@@ -1,0 +1,207 @@
+//! The client's attempt, from its first version to its end.
+
+use crate::ffi::{self, Record, MAX_TABLE};
+use crate::refusal::answer;
+use crate::{Pair, Refusal};
+use std::fmt;
+use std::ops::Deref;
+
+/// The kinds of an event.
+const DATAGRAM: u32 = 0;
+const PACKET_PROCESSED: u32 = 1;
+const OUTCOME: u32 = 2;
+const OUTCOME_WITHOUT_INFORMATION: u32 = 3;
+
+/// The end marks of a record; any other mark than these is an open attempt's.
+const COMPLETED: u32 = 1;
+const CLOSED: u32 = 2;
+
+/// How an attempt stands.
+#[derive(Clone, Copy, Debug, PartialEq, Eq, Hash)]
+pub enum End {
+    /// It has not ended.
+    Open,
+    /// It has completed with this version in use.
+    Completed(u32),
+    /// It has closed for this reason.
+    Closed(Refusal),
+}
+
+/// One attempt of a client: its table, pairs, Original Version and connection IDs, the version that
+/// it attempts now, and its end.
+///
+/// Only [`Attempt::start`] makes one and only its events change it, so that every attempt is what
+/// the proofs are about. It holds no pointer and no lock; one thread at a time may change it.
+#[derive(Clone, PartialEq, Eq)]
+pub struct Attempt {
+    // What a start handed back, changed since by events alone.
+    record: Record,
+}
+
+impl Attempt {
+    /// Starts an attempt. `table` is best first; `original` is the version of the first flight;
+    /// `destination` and `source` are the connection IDs that the first flight goes out with (0 to
+    /// 20 bytes each; empty or equal ones are allowed).
+    ///
+    /// The attempt is open and attempts `original`.
+    ///
+    /// # Errors
+    ///
+    /// There is then no attempt. In this order:
+    /// - [`BadTable`](Refusal::BadTable) (41): the table breaks its rule;
+    /// - [`BadPairs`](Refusal::BadPairs) (43): the pairs break theirs;
+    /// - [`OriginalNotInTable`](Refusal::OriginalNotInTable) (44);
+    /// - [`ConnectionIdTooLong`](Refusal::ConnectionIdTooLong) (45): an ID has over 20 bytes.
+    pub fn start(
+        table: &[u32],
+        pairs: &[Pair],
+        original: u32,
+        destination: &[u8],
+        source: &[u8],
+    ) -> Result<Attempt, Refusal> {
+        let started = ffi::start(table, pairs, original, destination, source);
+        answer(started.refusal, || Attempt {
+            record: started.attempt,
+        })
+    }
+
+    /// A datagram came. The answer is the version to attempt now: start a new first flight in it,
+    /// with [`Attempt::own_list`] as Available Versions.
+    ///
+    /// # Errors
+    ///
+    /// In this order:
+    /// - [`NotVersionNegotiation`](Refusal::NotVersionNegotiation) (61), which leaves the attempt
+    ///   as found: hand the datagram on to packet protection;
+    /// - [`TooLate`](Refusal::TooLate) (62), which leaves it as found: the attempt has ended, or
+    ///   acted or heard before;
+    /// - [`OtherConnection`](Refusal::OtherConnection) (63), which leaves it as found: the packet's
+    ///   IDs are not ours, swapped;
+    /// - [`ListsOriginal`](Refusal::ListsOriginal) (64), which leaves it as found: the packet lists
+    ///   the Original Version;
+    /// - [`NoVersionLeft`](Refusal::NoVersionLeft) (65), which ends the attempt: nothing in common.
+    pub fn datagram(&mut self, datagram: &[u8]) -> Result<u32, Refusal> {
+        let number = ffi::event(&mut self.record, DATAGRAM, 0, datagram);
+        answer(number, || self.record.attempted)
+    }
+
+    /// A genuine packet other than Version Negotiation was processed (document 01's "heard"). Later
+    /// Version Negotiation packets are ignored (RFC 9000 section 6.2). Only the caller can vouch
+    /// that the packet is genuine.
+    ///
+    /// # Errors
+    ///
+    /// [`TooLate`](Refusal::TooLate) (62), which leaves the attempt as found: it has ended. Twice on
+    /// an open attempt is no refusal.
+    pub fn packet_processed(&mut self) -> Result<(), Refusal> {
+        let number = ffi::event(&mut self.record, PACKET_PROCESSED, 0, &[]);
+        answer(number, || ())
+    }
+
+    /// The handshake ended with the version `in_use` and the server's Version Information, `None`
+    /// where it is missing. The answer is the version in use: the attempt has completed. Only the
+    /// caller can vouch that the handshake authenticated the information.
+    ///
+    /// # Errors
+    ///
+    /// The first leaves the attempt as found, all others end it: close the connection with
+    /// [`Refusal::close_code`]. In this order:
+    /// - [`TooLate`](Refusal::TooLate) (62): it has ended before;
+    /// - 31 to 35: the information is malformed, see [`read_information`](crate::read_information);
+    /// - [`InformationMissing`](Refusal::InformationMissing) (71): acted, and information is
+    ///   missing; not for attempted version 1, which reads Chosen 1, Available 1 in its place
+    ///   (RFC 9368 section 8);
+    /// - [`ChosenNotOurs`](Refusal::ChosenNotOurs) (72): Chosen is not in the own list;
+    /// - [`ChosenNotInUse`](Refusal::ChosenNotInUse) (73): Chosen is not `in_use`; if information is
+    ///   missing and the attempt never acted, the attempted version is not `in_use`;
+    /// - [`AvailableEmpty`](Refusal::AvailableEmpty) (74): acted, and Available is empty;
+    /// - [`Downgraded`](Refusal::Downgraded) (75): acted, and the choice from Available plus
+    ///   `in_use` is not the attempted version.
+    pub fn outcome(&mut self, in_use: u32, information: Option<&[u8]>) -> Result<u32, Refusal> {
+        let (kind, bytes) = match information {
+            Some(bytes) => (OUTCOME, bytes),
+            None => (OUTCOME_WITHOUT_INFORMATION, &[][..]),
+        };
+        let number = ffi::event(&mut self.record, kind, in_use, bytes);
+        answer(number, || self.record.end_value)
+    }
+
+    /// The version that is attempted now: the Original Version, or what the attempt chose from a
+    /// Version Negotiation packet.
+    pub fn attempted(&self) -> u32 {
+        self.record.attempted
+    }
+
+    /// The Original Version.
+    pub fn original(&self) -> u32 {
+        self.record.original
+    }
+
+    /// How the attempt stands.
+    pub fn end(&self) -> End {
+        match self.record.end_mark {
+            COMPLETED => End::Completed(self.record.end_value),
+            CLOSED => End::Closed(Refusal::answered(self.record.end_value)),
+            _ => End::Open,
+        }
+    }
+
+    /// The own list: every table entry that is the attempted version or is paired from it, in table
+    /// order. It goes into the client's Version Information as Available Versions.
+    pub fn own_list(&self) -> OwnList {
+        let mut own = OwnList {
+            versions: [0; MAX_TABLE],
+            count: 0,
+        };
+        // No refusal: every attempt is a record that an attempt has.
+        let number = ffi::own_list(&self.record, &mut own.versions, &mut own.count);
+        debug_assert_eq!(number, 0);
+        own
+    }
+}
+
+impl fmt::Debug for Attempt {
+    fn fmt(&self, f: &mut fmt::Formatter<'_>) -> fmt::Result {
+        f.debug_struct("Attempt")
+            .field("original", &self.original())
+            .field("attempted", &self.attempted())
+            .field("own_list", &self.own_list())
+            .field("end", &self.end())
+            .finish_non_exhaustive()
+    }
+}
+
+/// The own list of an attempt; a slice of 1 to 16 versions.
+#[derive(Clone, Copy)]
+pub struct OwnList {
+    versions: [u32; MAX_TABLE],
+    count: usize,
+}
+
+impl Deref for OwnList {
+    type Target = [u32];
+
+    fn deref(&self) -> &[u32] {
+        &self.versions[..self.count]
+    }
+}
+
+impl AsRef<[u32]> for OwnList {
+    fn as_ref(&self) -> &[u32] {
+        self
+    }
+}
+
+impl PartialEq for OwnList {
+    fn eq(&self, other: &OwnList) -> bool {
+        **self == **other
+    }
+}
+
+impl Eq for OwnList {}
+
+impl fmt::Debug for OwnList {
+    fn fmt(&self, f: &mut fmt::Formatter<'_>) -> fmt::Result {
+        fmt::Debug::fmt(&**self, f)
+    }
+}

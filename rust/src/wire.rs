@@ -1,0 +1,212 @@
+//! Datagram headers, Version Negotiation packets and Version Information.
+
+use crate::ffi;
+use crate::refusal::answer;
+use crate::Refusal;
+use std::iter::FusedIterator;
+
+/// The parts of a datagram that RFC 8999 fixes for every version.
+#[derive(Clone, Copy, Debug, PartialEq, Eq)]
+pub enum Header<'a> {
+    /// A long form with a version other than 0.
+    Long {
+        /// The version.
+        version: u32,
+        /// The destination connection ID.
+        destination: &'a [u8],
+        /// The source connection ID.
+        source: &'a [u8],
+        /// What follows.
+        rest: &'a [u8],
+    },
+    /// A short form.
+    Short {
+        /// The destination connection ID, of the told length.
+        destination: &'a [u8],
+        /// What follows.
+        rest: &'a [u8],
+    },
+    /// A Version Negotiation packet.
+    VersionNegotiation {
+        /// The destination connection ID.
+        destination: &'a [u8],
+        /// The source connection ID.
+        source: &'a [u8],
+        /// The versions as they lie on the wire; [`versions`] reads them.
+        list: &'a [u8],
+    },
+}
+
+/// `QV_LONG` and `QV_SHORT`; the third form is Version Negotiation.
+const LONG: u32 = 1;
+const SHORT: u32 = 2;
+
+/// Reads the header of a datagram. `told` is the length of a short form's destination ID; a long
+/// form ignores it.
+///
+/// # Errors
+///
+/// In this order:
+/// - [`DatagramTooLong`](Refusal::DatagramTooLong) (11): over 65,535 bytes;
+/// - [`Truncated`](Refusal::Truncated) (12): empty, a field runs past the end, or a short form's
+///   told length is over 255;
+/// - [`ListNotWhole`](Refusal::ListNotWhole) (13): a Version Negotiation list is empty, or bytes
+///   are left over.
+pub fn read_header(datagram: &[u8], told: usize) -> Result<Header<'_>, Refusal> {
+    let (mut form, mut version, mut places) = (0, 0, [0; 6]);
+    let number = ffi::read_header(datagram, told, &mut form, &mut version, &mut places);
+    answer(number, || {
+        let destination = &datagram[places[0]..places[1]];
+        let source = &datagram[places[2]..places[3]];
+        let rest = &datagram[places[4]..places[5]];
+        match form {
+            LONG => Header::Long {
+                version,
+                destination,
+                source,
+                rest,
+            },
+            SHORT => Header::Short { destination, rest },
+            _ => Header::VersionNegotiation {
+                destination,
+                source,
+                list: rest,
+            },
+        }
+    })
+}
+
+/// The versions of a list as it lies on the wire. [`versions`] makes it.
+#[derive(Clone, Debug)]
+pub struct Versions<'a> {
+    list: &'a [u8],
+    place: usize,
+}
+
+/// The versions of a list as it lies on the wire: four bytes for each, big endian. One to three
+/// bytes left over are no entry.
+pub fn versions(list: &[u8]) -> Versions<'_> {
+    Versions { list, place: 0 }
+}
+
+impl Iterator for Versions<'_> {
+    type Item = u32;
+
+    fn next(&mut self) -> Option<u32> {
+        let mut version = 0;
+        if ffi::entry(self.list, self.place, &mut version) == 0 {
+            return None;
+        }
+        self.place += 1;
+        Some(version)
+    }
+
+    fn size_hint(&self) -> (usize, Option<usize>) {
+        let left = self.list.len() / 4 - self.place;
+        (left, Some(left))
+    }
+}
+
+impl ExactSizeIterator for Versions<'_> {}
+impl FusedIterator for Versions<'_> {}
+
+/// Writes the Version Negotiation packet that answers a received datagram: the received IDs
+/// swapped, then the offered table in its order. The answer is the count of bytes written, at most
+/// [`MAX_PACKET`](crate::MAX_PACKET); bytes of the buffer past it keep their values.
+///
+/// # Errors
+///
+/// They leave the buffer as found. In this order:
+/// - [`DatagramTooLong`](Refusal::DatagramTooLong) (11): over 65,535 bytes were received;
+/// - [`Truncated`](Refusal::Truncated) (12): the datagram is empty, or a field of a long form runs
+///   past its end;
+/// - [`ShortForm`](Refusal::ShortForm) (21): it has the short form;
+/// - [`VersionNegotiationReceived`](Refusal::VersionNegotiationReceived) (22): it has version 0;
+/// - [`BadOfferedTable`](Refusal::BadOfferedTable) (23): the offered table breaks its rule;
+/// - [`ReceivedVersionOffered`](Refusal::ReceivedVersionOffered) (24): the received version is
+///   offered;
+/// - [`UnusedBitsTooLarge`](Refusal::UnusedBitsTooLarge) (25): `unused_bits` is over 127;
+/// - [`NoRoomForPacket`](Refusal::NoRoomForPacket) (26): the buffer is shorter than the packet.
+pub fn write_version_negotiation(
+    received: &[u8],
+    offered: &[u32],
+    unused_bits: u8,
+    buffer: &mut [u8],
+) -> Result<usize, Refusal> {
+    let mut count = 0;
+    let number = ffi::write_version_negotiation(received, offered, unused_bits, buffer, &mut count);
+    answer(number, || count)
+}
+
+/// Who sends Version Information. From a client, Chosen must be among Available; from a server it
+/// need not be, and Available may be empty.
+#[derive(Clone, Copy, Debug, PartialEq, Eq, Hash)]
+pub enum Sender {
+    /// A client.
+    Client,
+    /// A server.
+    Server,
+}
+
+impl Sender {
+    fn number(self) -> u32 {
+        match self {
+            Sender::Client => 0,
+            Sender::Server => 1,
+        }
+    }
+}
+
+/// Version Information (RFC 9368 section 3) that was read.
+#[derive(Clone, Copy, Debug, PartialEq, Eq)]
+pub struct Information<'a> {
+    /// The Chosen Version.
+    pub chosen: u32,
+    /// The Available Versions as they lie on the wire; [`versions`] reads them.
+    pub available: &'a [u8],
+}
+
+/// Reads Version Information.
+///
+/// # Errors
+///
+/// In this order:
+/// - [`InformationTooShort`](Refusal::InformationTooShort) (31): under 4 bytes;
+/// - [`InformationNotInFours`](Refusal::InformationNotInFours) (32): the length is not a multiple
+///   of four;
+/// - [`InformationTooLong`](Refusal::InformationTooLong) (33): over 1,024 bytes;
+/// - [`ChosenIsZero`](Refusal::ChosenIsZero) (34): Chosen is 0;
+/// - [`AvailableHoldsZero`](Refusal::AvailableHoldsZero) (35): an Available Version is 0;
+/// - [`ChosenNotAvailable`](Refusal::ChosenNotAvailable) (36), from a client only: Chosen is not
+///   among Available.
+pub fn read_information(sender: Sender, bytes: &[u8]) -> Result<Information<'_>, Refusal> {
+    let (mut chosen, mut start, mut end) = (0, 0, 0);
+    let number = ffi::read_information(sender.number(), bytes, &mut chosen, &mut start, &mut end);
+    answer(number, || Information {
+        chosen,
+        available: &bytes[start..end],
+    })
+}
+
+/// Writes Version Information. The answer is the count of bytes written, at most
+/// [`MAX_INFORMATION`](crate::MAX_INFORMATION); bytes of the buffer past it keep their values.
+///
+/// # Errors
+///
+/// They leave the buffer as found, and close nothing. In this order:
+/// - [`InformationTooLong`](Refusal::InformationTooLong) (33): over 255 Available Versions;
+/// - [`ChosenIsZero`](Refusal::ChosenIsZero) (34): Chosen is 0;
+/// - [`AvailableHoldsZero`](Refusal::AvailableHoldsZero) (35): an Available Version is 0;
+/// - [`ChosenNotAvailable`](Refusal::ChosenNotAvailable) (36), from a client only: Chosen is not
+///   among Available;
+/// - [`NoRoomForInformation`](Refusal::NoRoomForInformation) (37): the buffer is too short.
+pub fn write_information(
+    sender: Sender,
+    chosen: u32,
+    available: &[u32],
+    buffer: &mut [u8],
+) -> Result<usize, Refusal> {
+    let mut count = 0;
+    let number = ffi::write_information(sender.number(), chosen, available, buffer, &mut count);
+    answer(number, || count)
+}

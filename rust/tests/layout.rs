@@ -1,0 +1,125 @@
+//! The record and the numbers of this crate against the library's.
+
+use quic_version::raw::{self, Record};
+use quic_version::{Attempt, Pair, Refusal};
+use std::mem::{align_of, size_of};
+
+fn place<T>(record: &Record, field: &T) -> usize {
+    field as *const T as usize - record as *const Record as usize
+}
+
+#[test]
+fn interface_version() {
+    assert_eq!(
+        quic_version::interface_version(),
+        quic_version::INTERFACE_VERSION
+    );
+}
+
+#[test]
+fn sizes() {
+    assert_eq!(size_of::<Record>(), 272);
+    assert_eq!(raw::record_size(), size_of::<Record>());
+    assert_eq!(align_of::<Record>(), 8);
+    assert_eq!(size_of::<raw::Started>(), 280);
+    assert_eq!(size_of::<Attempt>(), size_of::<Record>());
+    assert_eq!((size_of::<Pair>(), align_of::<Pair>()), (8, 4));
+}
+
+#[test]
+fn places_of_the_fields() {
+    let record = raw::known_record();
+    let places = [
+        place(&record, &record.rows),
+        place(&record, &record.table),
+        place(&record, &record.destination),
+        place(&record, &record.source),
+        place(&record, &record.table_len),
+        place(&record, &record.destination_len),
+        place(&record, &record.source_len),
+        place(&record, &record.original),
+        place(&record, &record.attempted),
+        place(&record, &record.acted),
+        place(&record, &record.heard),
+        place(&record, &record.end_mark),
+        place(&record, &record.end_value),
+        place(&record, &record.unused),
+    ];
+    assert_eq!(
+        places,
+        [0, 128, 192, 212, 232, 236, 240, 244, 248, 252, 256, 260, 264, 268]
+    );
+}
+
+#[test]
+fn known_record_field_by_field() {
+    let record = raw::known_record();
+    assert_eq!(record.rows, [0x1112_1314_1516_1718; 16]);
+    assert_eq!(record.table, [0x2122_2324; 16]);
+    assert_eq!(record.destination, [0x31; 20]);
+    assert_eq!(record.source, [0x32; 20]);
+    assert_eq!(record.table_len, 0x41);
+    assert_eq!(record.destination_len, 0x42);
+    assert_eq!(record.source_len, 0x43);
+    assert_eq!(record.original, 0x44);
+    assert_eq!(record.attempted, 0x45);
+    assert_eq!(record.acted, 0x46);
+    assert_eq!(record.heard, 0x47);
+    assert_eq!(record.end_mark, 0x48);
+    assert_eq!(record.end_value, 0x49);
+    assert_eq!(record.unused, 0x4a);
+}
+
+/// The known record is no attempt.
+#[test]
+fn known_record_is_refused() {
+    let mut record = raw::known_record();
+    for kind in 0..4 {
+        assert_eq!(raw::event(&mut record, kind, 1, &[]), 255);
+        assert_eq!(record, raw::known_record());
+    }
+}
+
+/// Every field of a start's record is where and what the header says.
+#[test]
+fn record_of_a_start() {
+    let pairs = [Pair { from: 12, to: 14 }, Pair { from: 10, to: 12 }];
+    let started = raw::start(&[14, 12, 10], &pairs, 12, &[0xd1, 0xd2, 0xd3], &[0x51]);
+    assert_eq!(started.refusal, 0);
+    let mut expected = Record {
+        rows: [0; 16],
+        table: [0; 16],
+        destination: [0; 20],
+        source: [0; 20],
+        table_len: 3,
+        destination_len: 3,
+        source_len: 1,
+        original: 12,
+        attempted: 12,
+        acted: 0,
+        heard: 0,
+        end_mark: 0,
+        end_value: 0,
+        unused: 0,
+    };
+    expected.rows[..3].copy_from_slice(&[0b001, 0b011, 0b110]);
+    expected.table[..3].copy_from_slice(&[14, 12, 10]);
+    expected.destination[..3].copy_from_slice(&[0xd1, 0xd2, 0xd3]);
+    expected.source[0] = 0x51;
+    assert_eq!(started.attempt, expected);
+}
+
+#[test]
+fn refusals_and_their_numbers() {
+    let mut seen = 0;
+    for number in 0..=u8::MAX {
+        if let Some(refusal) = Refusal::from_number(number) {
+            seen += 1;
+            assert_eq!(refusal.number(), number);
+            let text = refusal.to_string();
+            assert!(text.ends_with(&format!(" ({})", number)), "{}", text);
+        }
+    }
+    // Document 01's 33 numbers, and 255.
+    assert_eq!(seen, 34);
+}
