@@ -83,8 +83,8 @@ pub extern "C" fn qv_choose_from_bytes(table: &[u32], bytes: &[u8], version: &mu
 {
     match choose_from_bytes(table, bytes) {
         Choice::Refused(refusal) => refusal.0 as u32,
-        Choice::Version(chosen) => {
-            *version = chosen;
+        Choice::Version(preferred) => {
+            *version = preferred;
             0
         }
     }

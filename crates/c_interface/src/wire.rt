@@ -1,4 +1,5 @@
 // Headers, Version Negotiation packets and Version Information as numbers and buffers.
+ghost use mathlib.Core.List.{[], _∷_};
 ghost use mathlib.Core.Path.{_≡_};
 ghost use lib.ListN.{length};
 ghost use Rattle.refusals.specs.Written.{leaves};
@@ -15,6 +16,7 @@ use invariants::Header;
 use invariants::reader::read_header;
 use invariants::writer::write_version_negotiation;
 use refusals::Written;
+use versions::Span;
 
 // Reads a header. Refusals: 11, 12, 13, which leave all as found; else 0. `form` is 1 long, 2 short, 3 Version
 // Negotiation; `version` is a long form's, else 0; `places` are start and end of the destination ID, the source ID
@@ -40,29 +42,17 @@ pub extern "C" fn qv_read_header(
             source,
             rest,
         } => {
+            let found = places_of(destination, source, rest);
             *form = 1;
             *version = number;
-            *places = [
-                destination.start,
-                destination.end,
-                source.start,
-                source.end,
-                rest.start,
-                rest.end,
-            ];
+            *places = found;
             0
         }
         Header::Short { destination, rest } => {
+            let found = places_of(destination, Span { start: 0, end: 0 }, rest);
             *form = 2;
             *version = 0;
-            *places = [
-                destination.start,
-                destination.end,
-                0,
-                0,
-                rest.start,
-                rest.end,
-            ];
+            *places = found;
             0
         }
         Header::VersionNegotiation {
@@ -70,19 +60,27 @@ pub extern "C" fn qv_read_header(
             source,
             list,
         } => {
+            let found = places_of(destination, source, list);
             *form = 3;
             *version = 0;
-            *places = [
-                destination.start,
-                destination.end,
-                source.start,
-                source.end,
-                list.start,
-                list.end,
-            ];
+            *places = found;
             0
         }
     }
+}
+
+// Start and end of three parts, in their order.
+fn places_of(first: Span, second: Span, third: Span) -> [usize; 6]
+    ensures { λ r. ⌜ r ≡ first .start ∷ first .end ∷ second .start ∷ second .end ∷ third .start ∷ third .end ∷ [] ⌝ }
+{
+    [
+        first.start,
+        first.end,
+        second.start,
+        second.end,
+        third.start,
+        third.end,
+    ]
 }
 
 // Writes the Version Negotiation packet that answers a received datagram. Refusals: 11, 12, 21 to 26, which leave
@@ -101,8 +99,8 @@ pub extern "C" fn qv_write_version_negotiation(
 {
     match write_version_negotiation(received, offered, unused_bits, buffer) {
         Written::Refused(refusal) => refusal.0 as u32,
-        Written::Count(written) => {
-            *count = written;
+        Written::Count(packet_length) => {
+            *count = packet_length;
             0
         }
     }
@@ -196,8 +194,8 @@ fn write_as(
 {
     match write_information(sender, chosen, available, buffer) {
         Written::Refused(refusal) => refusal.0 as u32,
-        Written::Count(written) => {
-            *count = written;
+        Written::Count(information_length) => {
+            *count = information_length;
             0
         }
     }

@@ -11,7 +11,9 @@ code-number-requires : tie.Need-code-number-requires
 code-number-requires c κs = search needs
 
 returns : tie.Need-returns
-returns c = rw (eq-eqb _ _ (c .before .before .if1 .taken), ← c .before .close-code .ensures) (c .code-number .ensures)
+returns c =
+    rw (eq-eqb _ _ (c .before .before .if1 .taken), ← c .before .close-code .ensures)
+    (c .code-number .ensures)
 
 close-code-requires-2 : tie.Need-close-code-requires-2
 close-code-requires-2 c κs = search needs
@@ -20,7 +22,9 @@ code-number-requires-2 : tie.Need-code-number-requires-2
 code-number-requires-2 c κs = search needs
 
 returns-2 : tie.Need-returns-2
-returns-2 c = rw (ne-eqb _ _ (c .before .before .if1 .left), ← c .before .close-code2 .ensures) (c .code-number2 .ensures)
+returns-2 c =
+    rw (ne-eqb _ _ (c .before .before .if1 .left), ← c .before .close-code2 .ensures)
+    (c .code-number2 .ensures)
 
 pub qv-close-code-spec : {M : Type 1} → statement M
 qv-close-code-spec =

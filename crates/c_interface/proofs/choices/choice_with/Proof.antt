@@ -20,13 +20,17 @@ enum-known-chosen : tie.Need-enum-known-chosen
 enum-known-chosen c = search needs
 
 returns : tie.Need-returns
-returns c = rw (← c .before .before .before .before .choose-after-first-flight .ensures, c .before .before .refusal .given .1) (refl, refl)
+returns c =
+    rw (← c .before .before .before .before .choose-after-first-flight .ensures, c .before .before .refusal .given .1)
+    (refl, refl)
 
 returns-2 : tie.Need-returns-2
 returns-2 c = rw (← c .before .before .choose-after-first-flight .ensures, c .enum-told .given .1) (refl, refl)
 
 returns-3 : tie.Need-returns-3
-returns-3 c = rw (← c .before .before .before .choose-after-first-flight .ensures, c .before .chosen .given .1) (refl, refl)
+returns-3 c =
+    rw (← c .before .before .before .choose-after-first-flight .ensures, c .before .chosen .given .1)
+    (refl, refl)
 
 pub choice-with-spec : {M : Type 1} → statement M
 choice-with-spec =

@@ -17,7 +17,9 @@ enum-known-chosen : tie.Need-enum-known-chosen
 enum-known-chosen c = search needs
 
 returns : tie.Need-returns
-returns c = rw (← c .before .before .before .before .choose-from .ensures, c .before .before .refusal .given .1) (refl, refl)
+returns c =
+    rw (← c .before .before .before .before .choose-from .ensures, c .before .before .refusal .given .1)
+    (refl, refl)
 
 returns-2 : tie.Need-returns-2
 returns-2 c = rw (← c .before .before .before .choose-from .ensures, c .before .chosen .given .1) (refl, refl)

@@ -13,14 +13,18 @@ enum-known-refusal c = search needs
 cast-result : tie.Need-cast-result
 cast-result c = search needs
 
-enum-known-chosen : tie.Need-enum-known-chosen
-enum-known-chosen c = search needs
+enum-known-preferred : tie.Need-enum-known-preferred
+enum-known-preferred c = search needs
 
 returns : tie.Need-returns
-returns c = rw (← c .before .before .before .before .choose-from-bytes .ensures, c .before .before .refusal .given .1) (refl, refl)
+returns c =
+    rw (← c .before .before .before .before .choose-from-bytes .ensures, c .before .before .refusal .given .1)
+    (refl, refl)
 
 returns-2 : tie.Need-returns-2
-returns-2 c = rw (← c .before .before .before .choose-from-bytes .ensures, c .before .chosen .given .1) (refl, refl)
+returns-2 c =
+    rw (← c .before .before .before .choose-from-bytes .ensures, c .before .preferred .given .1)
+    (refl, refl)
 
 pub qv-choose-from-bytes-spec : {M : Type 1} → statement M
 qv-choose-from-bytes-spec =
@@ -29,6 +33,6 @@ qv-choose-from-bytes-spec =
     choose-from-bytes-requires
     enum-known-refusal
     cast-result
-    enum-known-chosen
+    enum-known-preferred
     returns
     returns-2)

@@ -18,7 +18,9 @@ choice-with-requires-2 c κs = search needs
 
 returns-2 : tie.Need-returns-2
 unfolding presenceOf
-returns-2 c = rw (ne-eqb _ _ (c .before .before .before .if1 .left), eq-eqb _ _ (c .before .before .if2 .taken)) (c .choice-with2 .ensures)
+returns-2 c =
+    rw (ne-eqb _ _ (c .before .before .before .if1 .left), eq-eqb _ _ (c .before .before .if2 .taken))
+    (c .choice-with2 .ensures)
 
 returns-3 : tie.Need-returns-3
 unfolding presenceOf

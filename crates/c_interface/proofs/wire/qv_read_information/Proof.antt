@@ -18,7 +18,12 @@ read-as-requires-2 c κs = search needs
 
 returns-2 : tie.Need-returns-2
 unfolding senderOf
-returns-2 c = rw (ne-eqb _ _ (c .before .before .before .before .before .if1 .left), eq-eqb _ _ (c .before .before .before .before .if2 .taken)) (c .read-as2 .ensures)
+returns-2 c =
+    rw (
+      ne-eqb _ _ (c .before .before .before .before .before .if1 .left),
+      eq-eqb _ _ (c .before .before .before .before .if2 .taken),
+    )
+    (c .read-as2 .ensures)
 
 returns-3 : tie.Need-returns-3
 unfolding senderOf

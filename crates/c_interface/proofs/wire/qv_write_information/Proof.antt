@@ -14,7 +14,9 @@ same-length c = search needs
 
 returns : tie.Need-returns
 unfolding senderOf
-returns c = rw (eq-eqb _ _ (c .before .before .before .before .before .if1 .taken)) (c .before .before .write-as .ensures)
+returns c =
+    rw (eq-eqb _ _ (c .before .before .before .before .before .if1 .taken))
+    (c .before .before .write-as .ensures)
 
 write-as-requires-2 : tie.Need-write-as-requires-2
 write-as-requires-2 c κs = search needs
@@ -24,7 +26,12 @@ same-length-2 c = search needs
 
 returns-2 : tie.Need-returns-2
 unfolding senderOf
-returns-2 c = rw (ne-eqb _ _ (c .before .before .before .before .before .before .if1 .left), eq-eqb _ _ (c .before .before .before .before .before .if2 .taken)) (c .before .before .write-as2 .ensures)
+returns-2 c =
+    rw (
+      ne-eqb _ _ (c .before .before .before .before .before .before .if1 .left),
+      eq-eqb _ _ (c .before .before .before .before .before .if2 .taken),
+    )
+    (c .before .before .write-as2 .ensures)
 
 returns-3 : tie.Need-returns-3
 unfolding senderOf

@@ -21,8 +21,8 @@ enum-known-refusal c = search needs
 cast-result : tie.Need-cast-result
 cast-result c = search needs
 
-enum-known-written : tie.Need-enum-known-written
-enum-known-written c = search needs
+enum-known-packet-length : tie.Need-enum-known-packet-length
+enum-known-packet-length c = search needs
 
 same-length : tie.Need-same-length
 same-length c = search needs
@@ -45,7 +45,7 @@ same-length-2 c = search needs
 returns-2 : tie.Need-returns-2
 returns-2 c =
     let w = c .before .before .before .before .before .write-version-negotiation .ensures in
-    let e = sym (ap writtenReply (c .before .written .given .1)) ∙ w .0 in
+    let e = sym (ap writtenReply (c .before .packet-length .given .1)) ∙ w .0 in
     let o = owed (c .before .before .before .before .before .before .before .before .before .before) in
     (written-refusal o e, (w .1, written-count o _ e))
 
@@ -56,7 +56,7 @@ qv-write-version-negotiation-spec =
     write-version-negotiation-requires
     enum-known-refusal
     cast-result
-    enum-known-written
+    enum-known-packet-length
     same-length
     returns
     same-length-2

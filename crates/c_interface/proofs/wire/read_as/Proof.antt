@@ -17,10 +17,14 @@ enum-known-version : tie.Need-enum-known-version
 enum-known-version c = search needs
 
 returns : tie.Need-returns
-returns c = rw (← c .before .before .before .before .read-information .ensures, c .before .before .refusal .given .1) (refl, (refl, (refl, refl)))
+returns c =
+    rw (← c .before .before .before .before .read-information .ensures, c .before .before .refusal .given .1)
+    (refl, (refl, (refl, refl)))
 
 returns-2 : tie.Need-returns-2
-returns-2 c = rw (← c .before .before .before .read-information .ensures, c .before .version .given .1) (refl, (refl, (refl, refl)))
+returns-2 c =
+    rw (← c .before .before .before .read-information .ensures, c .before .version .given .1)
+    (refl, (refl, (refl, refl)))
 
 pub read-as-spec : {M : Type 1} → statement M
 read-as-spec =

@@ -21,8 +21,8 @@ enum-known-refusal c = search needs
 cast-result : tie.Need-cast-result
 cast-result c = search needs
 
-enum-known-written : tie.Need-enum-known-written
-enum-known-written c = search needs
+enum-known-information-length : tie.Need-enum-known-information-length
+enum-known-information-length c = search needs
 
 same-length : tie.Need-same-length
 same-length c = search needs
@@ -44,7 +44,7 @@ same-length-2 c = search needs
 returns-2 : tie.Need-returns-2
 returns-2 c =
     let w = c .before .before .before .before .before .write-information .ensures in
-    let e = sym (ap writtenReply (c .before .written .given .1)) ∙ w .0 in
+    let e = sym (ap writtenReply (c .before .information-length .given .1)) ∙ w .0 in
     let o = owed (c .before .before .before .before .before .before .before .before .before) in
     (written-refusal o e, (w .1, written-count o _ e))
 
@@ -55,7 +55,7 @@ write-as-spec =
     write-information-requires
     enum-known-refusal
     cast-result
-    enum-known-written
+    enum-known-information-length
     same-length
     returns
     same-length-2
