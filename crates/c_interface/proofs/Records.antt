@@ -1,18 +1,17 @@
 -- Records that an attempt has: what the test of one tells, and that starts and events leave such counts.
 use Prim.Native.Nat.{ℕ, _≤_}
-use mathlib.Core.Bool.{Bool, true, false, cond, _&&_, and-false}
+use mathlib.Core.Bool.{Bool, true, false}
 use mathlib.Core.List.{List}
 use mathlib.Core.Option.{Option.none, Option.some}
-use mathlib.Core.Path.{_≡_, refl, sym, ap, subst, _∙_}
-use native.Mathlib.Omega.{arith}
+use mathlib.Core.Path.{_≡_, refl, sym, ap, subst}
 use lib.Dec.{eqb, leb}
-use borrow.Author.Tests.{leb-true, lt-leb, le-leb, ne-eqb}
+use borrow.Author.Tests.{leb-true, ne-eqb}
 use Rattle.refusals.proofs.Rules.{both-true, lowest-applies}
 use Rattle.versions.specs.Limits.{maxTable}
 use Rattle.client.specs.Events.{Reachable}
 use Rattle.client.specs.Limits.{maxID}
 use Rattle.client.specs.Start.{Input, Start, isAccepted, startRules, startOf, shownStart, refusedStart, openedStart, blank}
-use Rattle.client.specs.Step.{After, countsFit, stepOf}
+use Rattle.client.specs.Step.{countsFit, stepOf}
 use Rattle.client.specs.declared.Attempt.{Attempt}
 use Rattle.client.specs.declared.Event.{Event}
 use Rattle.client.specs.declared.Started.{Started}

@@ -1,7 +1,7 @@
 -- `decode` meets its contract: field by field.
-use Rattle.c_interface.proofs.Records.{fitting}
-use Rattle.c_interface.specs.Records.{attemptOf}
 use borrow.Author.Needs.{needs}
+use Rattle.c_interface.specs.Records.{attemptOf}
+use Rattle.c_interface.proofs.Records.{fitting}
 use Rattle.c_interface.proofs.attempts.decode.Statement.{statement}
 use Rattle.c_interface.proofs.attempts.decode.Tie as tie
 

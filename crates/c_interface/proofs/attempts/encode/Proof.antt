@@ -1,11 +1,20 @@
 -- `encode` meets its contract: field by field.
 use Prim.Native.Nat.{_<_, _^_}
 use native.Mathlib.Omega.{arith}
+use borrow.Author.Needs.{needs}
 use Rattle.client.proofs.Steps.{counts-table, counts-destination, counts-source}
 use Rattle.c_interface.specs.Records.{recordOf}
-use borrow.Author.Needs.{needs}
 use Rattle.c_interface.proofs.attempts.encode.Statement.{statement}
 use Rattle.c_interface.proofs.attempts.encode.Tie as tie
+
+table-fits : (c : tie.Start) → c .args .attempt .«table_len» < 2 ^ 32
+table-fits c = omega (arith, counts-table (c .args .attempt) (c .pre))
+
+destination-fits : (c : tie.Start) → c .args .attempt .«destination_len» < 2 ^ 32
+destination-fits c = omega (arith, counts-destination (c .args .attempt) (c .pre))
+
+source-fits : (c : tie.Start) → c .args .attempt .«source_len» < 2 ^ 32
+source-fits c = omega (arith, counts-source (c .args .attempt) (c .pre))
 
 mark-of-requires : tie.Need-mark-of-requires
 mark-of-requires c κs = search needs
@@ -20,17 +29,20 @@ flag-of-requires-2 : tie.Need-flag-of-requires-2
 flag-of-requires-2 c κs = search needs
 
 cast-t11 : tie.Need-cast-t11
-cast-t11 c = let a = c .before .before .before .before .before .before .before .before .before .args .attempt in let fits : a .«table_len» < 2 ^ 32 = omega (arith, counts-table a (c .before .before .before .before .before .before .before .before .before .pre)) in record { fits = fits }
+cast-t11 c = record { fits = table-fits (c .before .before .before .before .before .before .before .before .before) }
 
 cast-t12 : tie.Need-cast-t12
-cast-t12 c = let a = c .before .before .before .before .before .before .before .before .before .before .args .attempt in let fits : a .«destination_len» < 2 ^ 32 = omega (arith, counts-destination a (c .before .before .before .before .before .before .before .before .before .before .pre)) in record { fits = fits }
+cast-t12 c = record { fits = destination-fits (c .before .before .before .before .before .before .before .before .before .before) }
 
 cast-t13 : tie.Need-cast-t13
-cast-t13 c = let a = c .before .before .before .before .before .before .before .before .before .before .before .args .attempt in let fits : a .«source_len» < 2 ^ 32 = omega (arith, counts-source a (c .before .before .before .before .before .before .before .before .before .before .before .pre)) in record { fits = fits }
+cast-t13 c = record { fits = source-fits (c .before .before .before .before .before .before .before .before .before .before .before) }
 
 returns : tie.Need-returns
 unfolding recordOf
-returns c = rw (c .before .before .before .before .before .before .mark-of .ensures, c .before .before .before .before .before .value-of .ensures, c .before .before .before .before .flag-of .ensures, c .before .before .before .flag-of2 .ensures)
+returns c =
+    let flags = c .before .before .before in
+    let end = flags .before .before in
+    rw (end .before .mark-of .ensures, end .value-of .ensures, flags .before .flag-of .ensures, flags .flag-of2 .ensures)
 
 pub encode-spec : {M : Type 1} → statement M
 encode-spec =

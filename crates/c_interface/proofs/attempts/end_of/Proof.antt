@@ -12,7 +12,10 @@ returns-2 : tie.Need-returns-2
 returns-2 c = rw (ne-eqb _ _ (c .before .if1 .left), eq-eqb _ _ (c .if2 .taken))
 
 cast-t4 : tie.Need-cast-t4
-cast-t4 c = let fits = closed-value (c .before .before .args .mark) (c .before .before .args .value) (c .before .if1 .left) (c .if2 .left) (c .before .before .pre) in record { fits = omega (arith, fits) }
+cast-t4 c =
+    let g = c .before .before .args in
+    let fits = closed-value (g .mark) (g .value) (c .before .if1 .left) (c .if2 .left) (c .before .before .pre) in
+    record { fits = omega (arith, fits) }
 
 returns-3 : tie.Need-returns-3
 returns-3 c = rw (ne-eqb _ _ (c .before .if1 .left), ne-eqb _ _ (c .if2 .left))

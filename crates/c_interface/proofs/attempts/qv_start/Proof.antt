@@ -1,10 +1,10 @@
 -- `qv_start` meets its contract: what `start` hands back, as a record.
 use mathlib.Core.Path.{ap}
+use borrow.Author.Needs.{needs}
 use Rattle.client.specs.Start.{Input, Start, inputOf}
 use Rattle.c_interface.specs.Numbers.{refusalOf}
 use Rattle.c_interface.specs.Records.{Left, recordOf}
 use Rattle.c_interface.proofs.Records.{start-counts}
-use borrow.Author.Needs.{needs}
 use Rattle.c_interface.proofs.attempts.qv_start.Statement.{statement}
 use Rattle.c_interface.proofs.attempts.qv_start.Tie as tie
 
@@ -20,7 +20,9 @@ start-requires : tie.Need-start-requires
 start-requires c κs = search needs
 
 encode-requires : tie.Need-encode-requires
-encode-requires c κs = start-counts (told (c .before)) (c .before .start .result) (c .before .start .ensures .0) (c .before .start .ensures .1)
+encode-requires c κs =
+    let at = c .before in
+    start-counts (told at) (at .start .result) (at .start .ensures .0) (at .start .ensures .1)
 
 start-number-requires : tie.Need-start-number-requires
 start-number-requires c κs = search needs

@@ -1,15 +1,14 @@
 -- `step_record` meets its contract: by the kind of event.
 use Prim.Native.Nat.{ℕ}
 use mathlib.Core.Bool.{true}
-use mathlib.Core.List.{List}
 use mathlib.Core.Option.{Option.none, Option.some}
 use mathlib.Core.Path.{_≡_, sym, _∙_}
 use borrow.Author.Tests.{eq-eqb, ne-eqb, not-true, not-false}
+use borrow.Author.Needs.{needs}
 use Rattle.information.specs.declared.Presence.the-variants.{Missing, Given}
 use Rattle.client.specs.declared.Event.the-variants.{Datagram, PacketProcessed, Outcome}
 use Rattle.c_interface.specs.Records.{isRecord, eventOf}
 use Rattle.c_interface.proofs.Records.{step-refused, step-known, step-unknown}
-use borrow.Author.Needs.{needs}
 use Rattle.c_interface.proofs.attempts.step_record.Statement.{statement}
 use Rattle.c_interface.proofs.attempts.step_record.Tie as tie
 
@@ -45,34 +44,60 @@ is-record-requires : tie.Need-is-record-requires
 is-record-requires c κs = search needs
 
 returns : tie.Need-returns
-returns c = step-refused (c .before .before .before .args .held) _ _ _ (sym (c .before .is-record .ensures) ∙ not-true _ (c .if1 .taken))
+returns c =
+    step-refused (c .before .before .before .args .held) _ _ _
+    (sym (c .before .is-record .ensures) ∙ not-true _ (c .if1 .taken))
 
 apply-requires : tie.Need-apply-requires
 apply-requires c κs = is-held (c .before)
 
 returns-2 : tie.Need-returns-2
-returns-2 c = let g = c .before .before .before .before .before .args in c .apply .ensures ∙ step-known (g .held) (g .kind) (g .value) (g .bytes .now) (is-held (c .before .before)) (kind-0 _ _ (c .before .if2 .taken))
+returns-2 c =
+    let h = c .before .before in
+    let g = h .before .before .before .args in
+    c .apply .ensures ∙
+    step-known (g .held) (g .kind) (g .value) (g .bytes .now) (is-held h)
+    (kind-0 _ _ (c .before .if2 .taken))
 
 apply-requires-2 : tie.Need-apply-requires-2
 apply-requires-2 c κs = is-held (c .before .before)
 
 returns-3 : tie.Need-returns-3
-returns-3 c = let g = c .before .before .before .before .before .before .args in c .apply2 .ensures ∙ step-known (g .held) (g .kind) (g .value) (g .bytes .now) (is-held (c .before .before .before)) (kind-1 _ _ (c .before .before .if2 .left) (c .before .if3 .taken))
+returns-3 c =
+    let h = c .before .before .before in
+    let g = h .before .before .before .args in
+    c .apply2 .ensures ∙
+    step-known (g .held) (g .kind) (g .value) (g .bytes .now) (is-held h)
+    (kind-1 _ _ (c .before .before .if2 .left) (c .before .if3 .taken))
 
 apply-requires-3 : tie.Need-apply-requires-3
 apply-requires-3 c κs = is-held (c .before .before .before)
 
 returns-4 : tie.Need-returns-4
-returns-4 c = let g = c .before .before .before .before .before .before .before .args in c .apply3 .ensures ∙ step-known (g .held) (g .kind) (g .value) (g .bytes .now) (is-held (c .before .before .before .before)) (kind-2 _ _ (c .before .before .before .if2 .left) (c .before .before .if3 .left) (c .before .if4 .taken))
+returns-4 c =
+    let h = c .before .before .before .before in
+    let g = h .before .before .before .args in
+    c .apply3 .ensures ∙
+    step-known (g .held) (g .kind) (g .value) (g .bytes .now) (is-held h)
+    (kind-2 _ _ (c .before .before .before .if2 .left) (c .before .before .if3 .left) (c .before .if4 .taken))
 
 apply-requires-4 : tie.Need-apply-requires-4
 apply-requires-4 c κs = is-held (c .before .before .before .before)
 
 returns-5 : tie.Need-returns-5
-returns-5 c = let g = c .before .before .before .before .before .before .before .before .args in c .apply4 .ensures ∙ step-known (g .held) (g .kind) (g .value) (g .bytes .now) (is-held (c .before .before .before .before .before)) (kind-3 _ _ (c .before .before .before .before .if2 .left) (c .before .before .before .if3 .left) (c .before .before .if4 .left) (c .before .if5 .taken))
+returns-5 c =
+    let h = c .before .before .before .before .before in
+    let g = h .before .before .before .args in
+    c .apply4 .ensures ∙
+    step-known (g .held) (g .kind) (g .value) (g .bytes .now) (is-held h)
+    (kind-3 _ _ (c .before .before .before .before .if2 .left) (c .before .before .before .if3 .left) (c .before .before .if4 .left) (c .before .if5 .taken))
 
 returns-6 : tie.Need-returns-6
-returns-6 c = let g = c .before .before .before .before .before .before .before .args in step-unknown (g .held) (g .kind) (g .value) (g .bytes .now) (is-held (c .before .before .before .before)) (kind-other _ _ (c .before .before .before .if2 .left) (c .before .before .if3 .left) (c .before .if4 .left) (c .if5 .left))
+returns-6 c =
+    let h = c .before .before .before .before in
+    let g = h .before .before .before .args in
+    step-unknown (g .held) (g .kind) (g .value) (g .bytes .now) (is-held h)
+    (kind-other _ _ (c .before .before .before .if2 .left) (c .before .before .if3 .left) (c .before .if4 .left) (c .if5 .left))
 
 pub step-record-spec : {M : Type 1} → statement M
 step-record-spec =
