@@ -233,14 +233,14 @@ fn events() {
     let information = &in_fours(&[14, 13, 14])[..];
     let mut acted = begun.clone();
     assert_eq!(acted.datagram(packet), Ok(14));
-    let mut plain_acted = plain_begun.clone();
+    let mut plain_acted = plain_begun;
     assert_eq!(plain_acted.datagram(packet), Ok(14));
     assert_eq!(acted.clone().outcome(14, Some(information)), Ok(14));
-    assert_eq!(plain_acted.clone().outcome(14, Some(information)), Ok(14));
+    assert_eq!(plain_acted.outcome(14, Some(information)), Ok(14));
 
     // Kept in a place that the compiler cannot tell from another.
     let mut kept = [begun.clone(), begun.clone()];
-    let mut plain_kept = [plain_begun.clone(), plain_begun.clone()];
+    let mut plain_kept = [plain_begun, plain_begun];
     row(
         "copy of the record alone",
         calls!(kept[opaque(0)].clone_from(opaque(&begun))),
@@ -520,7 +520,7 @@ mod plain {
         None
     }
 
-    #[derive(Clone)]
+    #[derive(Clone, Copy)]
     pub struct PlainAttempt {
         rows: [u64; 16],
         table: [u32; 16],

@@ -56,11 +56,13 @@ pub struct Started {
     pub refusal: u32,
 }
 
-// The layout of the header. The sizes of the fields add up to the size of the record, so there is
-// no padding, and each field lies where the ones before it end.
-const FIELDS: usize = 8 * MAX_TABLE + 4 * MAX_TABLE + 2 * MAX_ID + 4 * 10;
-const _: () = assert!(FIELDS == 272);
-const _: () = assert!(size_of::<Record>() == FIELDS);
+// The layout of the header: the sizes of the fields add up to the size of the record, so there is no
+// padding, and each field lies where the ones before it end.
+
+/// Bytes of a record.
+pub const RECORD_SIZE: usize = 8 * MAX_TABLE + 4 * MAX_TABLE + 2 * MAX_ID + 4 * 10;
+const _: () = assert!(RECORD_SIZE == 272);
+const _: () = assert!(size_of::<Record>() == RECORD_SIZE);
 const _: () = assert!(align_of::<Record>() == 8);
 const _: () = assert!(size_of::<Started>() == 280);
 const _: () = assert!(size_of::<Pair>() == 8);

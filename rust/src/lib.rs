@@ -50,6 +50,11 @@ pub use wire::{
     Information, Sender, Versions,
 };
 
+/// The walk-throughs of docs/INTEGRATION.md, so that they compile.
+#[cfg(doctest)]
+#[doc = include_str!("../../docs/INTEGRATION.md")]
+mod walk_throughs {}
+
 /// The functions of the library with their numbers, for this crate's own tests. No part of the
 /// interface.
 #[doc(hidden)]
