@@ -13,14 +13,25 @@ pub(crate) fn number(value: u64) {
     io::print_decimal(STDOUT_FILENO, value);
 }
 
+// A byte in hexadecimal, behind a space.
+fn byte(value: u8) {
+    text(b" ");
+    io::print_hex(STDOUT_FILENO, value as u64, 2);
+}
+
 // Bytes in hexadecimal, each behind a space.
 pub(crate) fn hex(bytes: &[u8]) {
     let mut i = 0;
     while i < bytes.len() {
-        text(b" ");
-        io::print_hex(STDOUT_FILENO, bytes[i] as u64, 2);
+        byte(bytes[i]);
         i += 1;
     }
+}
+
+// A version behind words.
+pub(crate) fn version(words: &[u8], version: u32) {
+    text(words);
+    number(version as u64);
 }
 
 // The first versions of a list, as many as `count`, each behind a space.
@@ -30,16 +41,9 @@ pub(crate) fn versions(list: &[u32], count: usize) {
         if count <= i {
             return;
         }
-        text(b" ");
-        number(list[i] as u64);
+        version(b" ", list[i]);
         i += 1;
     }
-}
-
-// A version behind words.
-pub(crate) fn version(words: &[u8], version: u32) {
-    text(words);
-    number(version as u64);
 }
 
 // Where a part lies.

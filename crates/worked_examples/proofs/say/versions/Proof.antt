@@ -1,63 +1,46 @@
+-- `versions`: the place stays within the list, and each turn leaves one entry fewer.
+use Prim.Native.Nat.{_-_, _≤_}
+use native.Mathlib.Omega.{arith}
+use lib.ListN.{length}
+use borrow.Author.Needs.{needs}
 use Rattle.worked_examples.proofs.say.versions.Statement.{statement}
 use Rattle.worked_examples.proofs.say.versions.Tie as tie
-use Rattle.worked_examples.proofs.say.versions.Reads as reads
-use Rattle.worked_examples.proofs.say.versions.Lts as lts
-use Rattle.worked_examples.proofs.say.number.Reads as number-reads
-use Rattle.worked_examples.proofs.say.text.Reads as text-reads
 
 abbrev Inv-loop : tie.InvT-loop
-Inv-loop list count i₀ t4 i = ?
+Inv-loop list count i₀ t4 i = i ≤ length list
 
 abbrev μ-loop : tie.MeasureT-loop
-μ-loop list count i₀ t4 i = ?
+μ-loop list count i₀ t4 i = length list - i
 
--- src/say.rt:29:5
 loop-holds : tie.Need-loop-holds Inv-loop μ-loop
-loop-holds c = ?
+loop-holds c = omega arith
 
--- src/say.rt:31:13
 returns : tie.Need-returns Inv-loop μ-loop
-returns c = ?
+returns c = search needs
 
--- src/say.rt:33:14
-slice-aggregate-text : tie.Need-slice-aggregate-text Inv-loop μ-loop
-slice-aggregate-text c = ?
+slice-aggregate-version : tie.Need-slice-aggregate-version Inv-loop μ-loop
+slice-aggregate-version c = search needs
 
--- src/say.rt:33:9
-text-requires : tie.Need-text-requires Inv-loop μ-loop
-text-requires c κs = ?
+mul-version : tie.Need-mul-version Inv-loop μ-loop
+mul-version c = search needs
 
--- src/say.rt:34:16
-mul-number : tie.Need-mul-number Inv-loop μ-loop
-mul-number c = ?
+shared-slice-read-version : tie.Need-shared-slice-read-version Inv-loop μ-loop
+shared-slice-read-version c = search needs
 
--- src/say.rt:34:16
-shared-slice-read-number : tie.Need-shared-slice-read-number Inv-loop μ-loop
-shared-slice-read-number c = ?
+version-requires : tie.Need-version-requires Inv-loop μ-loop
+version-requires c κs = search needs
 
--- src/say.rt:34:16
-cast-number : tie.Need-cast-number Inv-loop μ-loop
-cast-number c = ?
-
--- src/say.rt:34:9
-number-requires : tie.Need-number-requires Inv-loop μ-loop
-number-requires c κs = ?
-
--- src/say.rt:35:9
 add-i : tie.Need-add-i Inv-loop μ-loop
-add-i c = ?
+add-i c = search needs
 
--- src/say.rt:29:5
 loop-less : tie.Need-loop-less Inv-loop μ-loop
-loop-less c = ?
+loop-less c = omega arith
 
--- src/say.rt:29:5
 loop-again : tie.Need-loop-again Inv-loop μ-loop
-loop-again c = ?
+loop-again c = omega arith
 
--- src/say.rt:27:1
 returns-2 : tie.Need-returns-2 Inv-loop μ-loop
-returns-2 c = ?
+returns-2 c = search needs
 
 pub versions-spec : {M : Type 1} → statement M
 versions-spec =
@@ -67,12 +50,10 @@ versions-spec =
     μ-loop
     loop-holds
     returns
-    slice-aggregate-text
-    text-requires
-    mul-number
-    shared-slice-read-number
-    cast-number
-    number-requires
+    slice-aggregate-version
+    mul-version
+    shared-slice-read-version
+    version-requires
     add-i
     loop-less
     loop-again
