@@ -25,22 +25,22 @@ fn flight(label: &[u8], accepted: &[u32], pairs: &[[u32; 2]]) {
 
 fn by_the_server() {
     flight(
-        b"first flight in 3, Chosen 3, Available 3, 4, accepting 4, 3, pair 3 to 4: ",
+        b"reads 3, first flight in 3, Chosen 3, Available 3, 4, accepting 4, 3, pair 3 to 4: ",
         &[4, 3],
         &[[3, 4]],
     );
     flight(
-        b"first flight in 3, Chosen 3, Available 3, 4, accepting 4, 3, pair 4 to 3: ",
+        b"reads 3, first flight in 3, Chosen 3, Available 3, 4, accepting 4, 3, pair 4 to 3: ",
         &[4, 3],
         &[[4, 3]],
     );
     flight(
-        b"first flight in 3, Chosen 3, Available 3, 4, accepting 4, 3, no pair: ",
+        b"reads 3, first flight in 3, Chosen 3, Available 3, 4, accepting 4, 3, no pair: ",
         &[4, 3],
         &[],
     );
     flight(
-        b"first flight in 3, Chosen 3, Available 3, 4, accepting 4, no pair: ",
+        b"reads 3, first flight in 3, Chosen 3, Available 3, 4, accepting 4, no pair: ",
         &[4],
         &[],
     );
@@ -49,7 +49,11 @@ fn by_the_server() {
 fn short_information() {
     received(b"information of 0 bytes: ", Sender::Client, &[]);
     received(b"information of 3 bytes: ", Sender::Client, &[1, 1, 1]);
-    received(b"information of 5 bytes: ", Sender::Client, &[1, 1, 1, 1, 1]);
+    received(
+        b"information of 5 bytes: ",
+        Sender::Client,
+        &[1, 1, 1, 1, 1],
+    );
 }
 
 fn long_information() {

@@ -20,11 +20,7 @@ pub(crate) fn all() {
 }
 
 fn from_a_list() {
-    choice(
-        b"table 14, 12, 10, list 10, 12: ",
-        &[14, 12, 10],
-        &[10, 12],
-    );
+    choice(b"table 14, 12, 10, list 10, 12: ", &[14, 12, 10], &[10, 12]);
     choice(b"table 14, 12, 10, list 0, 10: ", &[14, 12, 10], &[0, 10]);
     let longest = [10u32; 16382];
     choice(
@@ -85,7 +81,10 @@ fn starts() {
 }
 
 fn own_lists() {
-    own(b"own list for 12, no pairs:", records::plain());
+    own(
+        b"own list for 12, table 14, 12, 10, no pairs:",
+        records::plain(),
+    );
     own(
         b"own list for 1, table 3, 4, 1, 2, pairs 1 to 2 and 3 to 4:",
         records::paired(),
@@ -98,7 +97,7 @@ fn own_lists() {
 
 // Attempts that never acted, and the stand-in for missing information of one that did.
 fn outcomes() {
-    processed(b"a packet was processed: ", records::plain());
+    processed(b"attempted 12, a packet was processed: ", records::plain());
     missing(
         b"attempted and in use 12, never acted, information missing: ",
         records::plain(),
@@ -109,7 +108,7 @@ fn outcomes() {
         records::after_missing(records::plain(), 12),
     );
     outcome(
-        b"outcome with information of 5 bytes: ",
+        b"attempted 12, outcome with information of 5 bytes: ",
         records::plain(),
         12,
         b"\0\0\0\x0c\0",

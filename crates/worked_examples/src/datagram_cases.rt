@@ -13,5 +13,9 @@ pub(crate) fn all() {
 fn longest() {
     let mut datagram = [0u8; 65535];
     datagram[0] = 0x80;
-    header(b"header of 65535 bytes, version 0, 16382 entries: ", &datagram, 0);
+    header(
+        b"header of 65535 bytes, version 0, 16382 entries: ",
+        &datagram,
+        0,
+    );
 }

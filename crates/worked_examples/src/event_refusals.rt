@@ -13,7 +13,7 @@ pub(crate) fn all() {
 
 fn of_datagrams() {
     datagram(
-        b"datagram of version 12: ",
+        b"datagram of the long form, version 12: ",
         records::plain(),
         b"\xc0\0\0\0\x0c\x01\xcc\x02\xaa\xbb\xff",
     );
@@ -49,13 +49,13 @@ fn of_chosen_versions() {
         14,
     );
     outcome(
-        b"own list 14, Chosen and in use 10: ",
+        b"acted with 14, own list 14, Chosen and in use 10: ",
         records::acted_with_14(),
         10,
         b"\0\0\0\x0a\0\0\0\x0a",
     );
     outcome(
-        b"Chosen 12, in use 14: ",
+        b"attempted 12, Chosen 12, in use 14: ",
         records::plain(),
         14,
         b"\0\0\0\x0c\0\0\0\x0c",
@@ -70,7 +70,7 @@ fn of_available_versions() {
         b"\0\0\0\x04",
     );
     outcome(
-        b"acted with 4, Chosen and in use 4, Available 4, 3: ",
+        b"acted with 4, table 3, 4, 1, 2, Chosen and in use 4, Available 4, 3: ",
         records::acted_with_4(),
         4,
         b"\0\0\0\x04\0\0\0\x04\0\0\0\x03",

@@ -1,5 +1,5 @@
-// Document 01's worked calls and byte strings beside P1 to P12, run through the public functions: one line for each case, in
-// the order of document 01's sections. Its table of refusals has one line for each number.
+// Document 01's worked calls and byte strings beside P1 to P12, run through the public functions: one line for
+// each case, in the order of document 01's sections. "When the desk says no" has one line for each number.
 mod call_cases; // "Calls from both sides of the line"
 mod choice_cases; // "How a version is chosen"
 mod datagram_cases; // "What a datagram may hold"

@@ -46,11 +46,11 @@ pub(crate) fn versions(list: &[u32], count: usize) {
     }
 }
 
-// Where a part lies.
+// Where a part lies: from a place up to, and not with, another.
 pub(crate) fn place(name: &[u8], part: Span) {
     text(name);
     number(part.start as u64);
-    text(b" to ");
+    text(b"..");
     number(part.end as u64);
 }
 

@@ -23,20 +23,20 @@ use versions::choosing::choose_from;
 
 fn long_form(number: u32, destination: Span, source: Span, rest: Span) {
     version(b"long form, version ", number);
-    place(b", destination ID ", destination);
-    place(b", source ID ", source);
-    place(b", rest ", rest);
+    place(b", destination ID at ", destination);
+    place(b", source ID at ", source);
+    place(b", rest at ", rest);
 }
 
 fn short_form(destination: Span, rest: Span) {
-    place(b"short form, destination ID ", destination);
-    place(b", rest ", rest);
+    place(b"short form, destination ID at ", destination);
+    place(b", rest at ", rest);
 }
 
 fn negotiation(destination: Span, source: Span, list: Span) {
-    place(b"Version Negotiation, destination ID ", destination);
-    place(b", source ID ", source);
-    place(b", list ", list);
+    place(b"Version Negotiation, destination ID at ", destination);
+    place(b", source ID at ", source);
+    place(b", list at ", list);
 }
 
 // The header of a datagram.
@@ -60,10 +60,12 @@ pub(crate) fn header(label: &[u8], datagram: &[u8], told: usize) {
     text(b"\n");
 }
 
-// The same of a datagram that is short enough to print.
+// The same of a few bytes.
 pub(crate) fn header_of(datagram: &[u8], told: usize) {
     text(b"header of");
     hex(datagram);
+    text(b", told length ");
+    number(told as u64);
     header(b": ", datagram, told);
 }
 
@@ -126,7 +128,7 @@ pub(crate) fn received(label: &[u8], sender: Sender, bytes: &[u8]) {
         Information::Refused(refusal) => refused(refusal, Call::Reading),
         Information::Read { chosen, available } => {
             version(b"Chosen ", chosen);
-            place(b", Available ", available);
+            place(b", Available at ", available);
         }
     }
     text(b"\n");

@@ -57,13 +57,13 @@ fn answered(answer: Answer) {
 // How an attempt stands.
 fn standing(end: End) {
     match end {
-        End::Open => text(b"; open\n"),
+        End::Open => text(b"; record open\n"),
         End::Completed(in_use) => {
-            version(b"; completed with ", in_use);
+            version(b"; record completed with ", in_use);
             text(b"\n");
         }
         End::Closed(cause) => {
-            text(b"; closed with ");
+            text(b"; record closed with ");
             number(cause as u64);
             text(b"\n");
         }

@@ -47,7 +47,7 @@ fn of_starts() {
 
 fn of_the_server() {
     decision(
-        b"first flight in 3, Chosen 4, Available 4, 3: ",
+        b"reads 3, accepts 4, 3, first flight in 3, Chosen 4, Available 4, 3: ",
         &[3],
         &[4, 3],
         &[],
