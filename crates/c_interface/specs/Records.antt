@@ -1,14 +1,12 @@
 -- The attempt's record without enums, as C keeps it.
 use Prim.Native.Nat.{ℕ}
-use mathlib.Core.Bool.{Bool, true, false, cond, _&&_}
+use mathlib.Core.Bool.{Bool, true, cond, _&&_}
 use mathlib.Core.List.{List}
 use mathlib.Core.Option.{Option, Option.none, Option.some}
 use lib.Dec.{eqb, leb}
 use lib.ListN.{replicate}
-use Rattle.refusals.specs.Reply.{Reply, Reply.refused, Reply.answered}
 use Rattle.versions.specs.Limits.{maxTable}
 use Rattle.information.specs.declared.Presence.the-variants.{Missing, Given}
-use Rattle.client.specs.Attempt.{ownOf, padded}
 use Rattle.client.specs.Limits.{maxID}
 use Rattle.client.specs.Start.{Input, startOf}
 use Rattle.client.specs.Step.{After, stepOf}

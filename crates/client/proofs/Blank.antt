@@ -6,12 +6,12 @@ use mathlib.Core.List.{List, [], _∷_}
 use mathlib.Core.Option.{Option, Option.none, Option.some}
 use mathlib.Core.Path.{_≡_, refl, sym, subst, _∙_}
 use native.Mathlib.Omega.{arith}
-use lib.Dec.{leb, ltb}
+use lib.Dec.{ltb}
 use lib.ListN.{length}
-use borrow.Author.Tests.{leb-true, ltb-false, not-false}
+use borrow.Author.Tests.{ltb-false, not-false}
 use Rattle.refusals.specs.Rule.{Rule, Rule._when_, lowest}
 use Rattle.versions.proofs.Lists.{table-counts}
-use Rattle.refusals.proofs.Rules.{both-true, lowest-any}
+use Rattle.refusals.proofs.Rules.{lowest-any}
 use Rattle.versions.specs.Choice.{preferred}
 use Rattle.versions.specs.Limits.{maxTable}
 use Rattle.versions.specs.Table.{tableKeepsRule}

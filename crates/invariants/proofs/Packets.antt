@@ -5,10 +5,10 @@ use mathlib.Core.Bool.{Bool, true, false, not, _&&_, _||_, true≢false, false�
 use mathlib.Core.List.{List, [], _∷_, _++_}
 use mathlib.Core.Path.{_≡_, refl, sym, ap, _∙_, subst}
 use native.Mathlib.Omega.{arith}
-use lib.Dec.{eqb, ltb, leb}
+use lib.Dec.{eqb, ltb}
 use lib.ListN.{length, take, drop, getD, length-append}
 use lib.Seq.{getD-drop, getD-at, drop-drop, drop-at, take-at}
-use borrow.Author.Tests.{ltb-false, eqb-false, leb-true, not-true, not-false, le-ltb, le-leb, eq-eqb, ne-eqb}
+use borrow.Author.Tests.{ltb-false, eqb-false, not-true, not-false, le-ltb, le-leb, eq-eqb, ne-eqb}
 use Rattle.refusals.specs.Reply.{Reply, Reply.refused, Reply.answered, refuse}
 use Rattle.refusals.specs.Rule.{Rule, Rule._when_, clear}
 use Rattle.refusals.specs.declared.Call.the-variants.{Writing}
