@@ -1,20 +1,19 @@
 -- Records that an attempt has: what the test of one tells, and that starts and events leave such counts.
 use Prim.Native.Nat.{ℕ, _≤_}
 use mathlib.Core.Bool.{Bool, true, false}
-use mathlib.Core.List.{List}
+use mathlib.Core.List.{List, []}
 use mathlib.Core.Option.{Option.none, Option.some}
-use mathlib.Core.Path.{_≡_, refl, sym, ap, subst}
+use mathlib.Core.Path.{_≡_, refl}
 use lib.Dec.{eqb, leb}
 use borrow.Author.Tests.{leb-true, ne-eqb}
 use Rattle.refusals.proofs.Rules.{both-true, lowest-applies}
 use Rattle.versions.specs.Limits.{maxTable}
-use Rattle.client.specs.Events.{Reachable}
+use Rattle.client.specs.Events.{run}
 use Rattle.client.specs.Limits.{maxID}
-use Rattle.client.specs.Start.{Input, Start, isAccepted, startRules, startOf, shownStart, refusedStart, openedStart, blank}
+use Rattle.client.specs.Start.{Input, Start, isAccepted, startRules, startOf, refusedStart, openedStart, blank}
 use Rattle.client.specs.Step.{countsFit, stepOf}
 use Rattle.client.specs.declared.Attempt.{Attempt}
 use Rattle.client.specs.declared.Event.{Event}
-use Rattle.client.specs.declared.Started.{Started}
 use Rattle.client.proofs.Blank.{step-any, reachable-counts}
 use Rattle.client.proofs.Steps.{counts-all}
 use Rattle.c_interface.specs.Records.{markFits, isRecord, attemptOf, eventOf, leftAfter, asFound, stepRecord}
@@ -57,18 +56,16 @@ record-counts r h = let f = fitting r h in counts-all (attemptOf r) (f .table) (
 pub step-counts : (a : Attempt) (e : Event) (bytes : List ℕ) → countsFit a ≡ true → countsFit (stepOf a e bytes .attempt) ≡ true
 step-counts a e bytes h = step-any (λ (b : Attempt). countsFit b ≡ true) a h (λ v acted heard end. h) e bytes
 
--- Those of a start, refused or not
-refused-counts : (x : Input) → isAccepted x ≡ false → countsFit (startOf x .attempt) ≡ true
-unfolding startOf blank
-refused-counts x h =
-    lowest-applies refusedStart (openedStart x) (λ (s : Start). countsFit (s .attempt) ≡ true) (λ n. refl) (startRules x) h
-
-pub start-counts : (x : Input) (s : Started) → shownStart s ≡ startOf x → (isAccepted x ≡ true → Reachable (s .attempt)) →
-    countsFit (s .attempt) ≡ true
-start-counts x s told opens = go (isAccepted x) refl where
-  go : (b : Bool) → isAccepted x ≡ b → countsFit (s .attempt) ≡ true
-  go true h = let k = reachable-counts (opens h) in counts-all (s .attempt) (k .0) (k .1) (k .2)
-  go false h = subst (λ (a : Attempt). countsFit a ≡ true) (sym (ap (λ (t : Start). t .attempt) told)) (refused-counts x h)
+-- Those of a start, accepted or refused
+pub start-counts : (x : Input) → countsFit (startOf x .attempt) ≡ true
+unfolding startOf blank run
+start-counts x = go (isAccepted x) refl where
+  go : (b : Bool) → isAccepted x ≡ b → countsFit (startOf x .attempt) ≡ true
+  go true h =
+      let k = reachable-counts {a = startOf x .attempt} (record { input = x; accepted = h; events = []; reached = refl }) in
+      counts-all (startOf x .attempt) (k .0) (k .1) (k .2)
+  go false h =
+      lowest-applies refusedStart (openedStart x) (λ (s : Start). countsFit (s .attempt) ≡ true) (λ n. refl) (startRules x) h
 
 -- One event, by its kind
 module _ (r : Record) (kind value : ℕ) (bytes : List ℕ) where

@@ -20,9 +20,7 @@ start-requires : tie.Need-start-requires
 start-requires c κs = search needs
 
 encode-requires : tie.Need-encode-requires
-encode-requires c κs =
-    let at = c .before in
-    start-counts (told at) (at .start .result) (at .start .ensures .0) (at .start .ensures .1)
+encode-requires c κs = rw (ap (λ (s : Start). s .attempt) (c .before .start .ensures .0)) (start-counts (told (c .before)))
 
 start-number-requires : tie.Need-start-number-requires
 start-number-requires c κs = search needs
