@@ -15,9 +15,9 @@ use quic_version::{
 };
 use std::time::Instant;
 
-const RUNS: usize = 15;
-/// The least time of one run, in nanoseconds.
-const RUN: u128 = 4_000_000;
+const RUNS: usize = 101;
+/// The least time of one run, in nanoseconds: short, so that a busy machine spoils few runs.
+const RUN: f64 = 200_000.0;
 
 /// The same value, in a way that the compiler cannot see through.
 fn opaque<T: Copy>(value: T) -> T {
@@ -39,14 +39,9 @@ fn median(mut times: Vec<f64>) -> f64 {
 
 /// One row. Each closure makes so many calls.
 fn row(name: &str, mut library: impl FnMut(u64), mut plain: impl FnMut(u64)) {
+    // Twice the calls until the quickest of three runs of plain Rust is long enough.
     let mut calls = 1;
-    loop {
-        let begin = Instant::now();
-        library(calls);
-        plain(calls);
-        if begin.elapsed().as_nanos() >= RUN {
-            break;
-        }
+    while (0..3).any(|_| time(calls, &mut plain) * (calls as f64) < RUN) {
         calls *= 2;
     }
     let (mut ours, mut theirs) = (Vec::new(), Vec::new());
@@ -248,7 +243,7 @@ fn events() {
     );
     assert_eq!(kept[opaque(0)].attempted(), plain_kept[opaque(0)].attempted);
     row(
-        "event: Version Negotiation, acts (30 bytes and 3 entries)",
+        "event: Version Negotiation, acts (35 bytes, 3 entries)",
         calls!(opaque(&begun).clone().datagram(opaque(packet)).is_ok()),
         calls!(opaque(&plain_begun)
             .clone()

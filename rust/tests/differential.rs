@@ -14,7 +14,7 @@ mod random;
 use checks::*;
 use model::{Event, Sender};
 use quic_version::Refusal;
-use random::Random;
+use random::{Random, StartCall};
 use std::collections::BTreeMap;
 use std::env;
 use std::io::Write;
@@ -302,20 +302,7 @@ fn attempts(seen: &mut Seen, random: &mut Random, stream: usize) {
                 seen.note("qv_event, qv_own_list", number);
             }
         }
-        Err(difference) => panic!(
-            "\nlibrary and model differ in an attempt (stream {}):\n{}\n\n    check_events({}).unwrap();\n",
-            stream,
-            difference,
-            [
-                (&c.table[..]).paste(),
-                (&c.pairs[..]).paste(),
-                c.original.paste(),
-                (&c.destination[..]).paste(),
-                (&c.source[..]).paste(),
-                (&events[..]).paste(),
-            ]
-            .join(", ")
-        ),
+        Err(_) => panic!("{}", failing_attempt(&c, &events, stream)),
     }
 
     // A record that no attempt has, and an event of an unknown kind.
@@ -344,6 +331,43 @@ fn attempts(seen: &mut Seen, random: &mut Random, stream: usize) {
         "qv_event, unknown kind",
         check_unknown_kind(&c.table[..], &c.pairs[..], c.original, events, kind)
     );
+}
+
+/// A failing attempt as a call to paste, without the pairs and events that it fails without.
+fn failing_attempt(c: &StartCall, events: &[Event], stream: usize) -> String {
+    let check = |pairs: &[(u32, u32)], events: &[Event]| {
+        let (destination, source) = (&c.destination, &c.source);
+        check_events(&c.table, pairs, c.original, destination, source, events).err()
+    };
+    let pairs = fewest(&c.pairs, |pairs| check(pairs, events).is_some());
+    let events = fewest(events, |events| check(&pairs, events).is_some());
+    let inputs = [
+        (&c.table[..]).paste(),
+        (&pairs[..]).paste(),
+        c.original.paste(),
+        (&c.destination[..]).paste(),
+        (&c.source[..]).paste(),
+        (&events[..]).paste(),
+    ];
+    format!(
+        "\nlibrary and model differ in an attempt (stream {}):\n{}\n\n    check_events({}).unwrap();\n",
+        stream,
+        check(&pairs, &events).unwrap_or_default(),
+        inputs.join(", ")
+    )
+}
+
+/// `items` without those that it still fails without, one after the other.
+fn fewest<T: Clone>(items: &[T], fails: impl Fn(&[T]) -> bool) -> Vec<T> {
+    let mut left = items.to_vec();
+    for place in (0..left.len()).rev() {
+        let mut fewer = left.clone();
+        fewer.remove(place);
+        if fails(&fewer) {
+            left = fewer;
+        }
+    }
+    left
 }
 
 // Whole ranges and edges.
