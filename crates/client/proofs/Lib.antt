@@ -9,5 +9,6 @@ pub mod Padded
 pub mod Phases
 pub mod Reaching
 pub mod Steps
+pub mod Told
 pub mod Walks
 pub mod Worked

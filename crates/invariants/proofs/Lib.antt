@@ -1,6 +1,7 @@
 pub mod Headers
 pub mod Negotiations
-pub mod WorkedHeaders
 pub mod Packets
 pub mod Places
+pub mod Told
+pub mod WorkedHeaders
 pub mod Writing

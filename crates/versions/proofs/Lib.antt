@@ -2,4 +2,5 @@ pub mod Chosen
 pub mod Entries
 pub mod Laws
 pub mod Lists
+pub mod Told
 pub mod Worked
