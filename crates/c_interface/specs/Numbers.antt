@@ -9,7 +9,6 @@ use Rattle.refusals.specs.declared.Call.{Call}
 use Rattle.refusals.specs.declared.Call.the-variants.{Reading, Writing}
 use Rattle.refusals.specs.declared.Close.{Close}
 use Rattle.refusals.specs.declared.Close.the-variants.{Nothing, With}
-use Rattle.versions.specs.declared.Span.{Span}
 use Rattle.invariants.specs.Header.{Form, Form.long, Form.short, Form.versionNegotiation}
 use Rattle.information.specs.Information.{Found}
 use Rattle.information.specs.declared.Presence.{Presence}

@@ -1,14 +1,12 @@
 -- The attempt's record without enums, as C keeps it.
 use Prim.Native.Nat.{ℕ}
-use mathlib.Core.Bool.{Bool, true, false, cond, _&&_}
+use mathlib.Core.Bool.{Bool, true, cond, _&&_}
 use mathlib.Core.List.{List}
 use mathlib.Core.Option.{Option, Option.none, Option.some}
 use lib.Dec.{eqb, leb}
 use lib.ListN.{replicate}
-use Rattle.refusals.specs.Reply.{Reply, Reply.refused, Reply.answered}
 use Rattle.versions.specs.Limits.{maxTable}
 use Rattle.information.specs.declared.Presence.the-variants.{Missing, Given}
-use Rattle.client.specs.Attempt.{ownOf, padded}
 use Rattle.client.specs.Limits.{maxID}
 use Rattle.client.specs.Start.{Input, startOf}
 use Rattle.client.specs.Step.{After, stepOf}
@@ -61,7 +59,7 @@ attemptOf r =
       attempted = r .attempted;
       acted = eqb (r .acted) 1;
       heard = eqb (r .heard) 1;
-      end = endOf (r .«end_mark») (r .«end_value»)
+      end = endOf (r .«end_mark») (r .«end_value»);
     }
 
 -- The record of an attempt
@@ -81,7 +79,7 @@ recordOf a =
       heard = flag (a .heard);
       «end_mark» = markOf (a .end);
       «end_value» = markValue (a .end);
-      unused = 0
+      unused = 0;
     }
 
 -- Events: 0 a datagram, 1 a packet was processed, 2 an outcome with information given, 3 one with it missing; the
@@ -138,5 +136,5 @@ knownRecord =
       heard = 0x47;
       «end_mark» = 0x48;
       «end_value» = 0x49;
-      unused = 0x4a
+      unused = 0x4a;
     }

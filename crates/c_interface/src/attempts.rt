@@ -8,7 +8,6 @@ ghost use Rattle.client.specs.Start.{inputOf, startReply};
 ghost use Rattle.client.specs.Step.{countsFit, stepOf, answerReply};
 ghost use Rattle.c_interface.specs.Numbers.{flag, notValid, refusalOf};
 ghost use Rattle.c_interface.specs.Records.{isRecord, markFits, attemptOf, recordOf, endOf, markOf, markValue, leftAfter, stepRecord, startRecord, knownRecord, recordSize, shownLeft};
-
 use crate::NOT_VALID;
 use crate::RECORD_SIZE;
 use crate::Record;
@@ -224,6 +223,22 @@ pub(crate) fn step_record(held: Record, kind: u32, value: u32, bytes: &[u8]) -> 
     }
 }
 
+// One event in place. `kind` is 0 for a datagram, 1 for a processed packet, 2 for an outcome with information given,
+// 3 for one with it missing; `value` is the version in use of an outcome. `bytes` is the datagram, or the information
+// that is given; else it is not read. Refusals, in order:
+// 255 for a record that no attempt has or another kind, which leaves the record as found;
+// a datagram: 61, 62, 63, 64, unchanged; 65, which ends the attempt;
+// a processed packet: 62, unchanged;
+// an outcome: 62, unchanged; 31 to 35 and 71 to 75, which end the attempt.
+#[no_mangle]
+pub extern "C" fn qv_event(held: &mut Record, kind: u32, value: u32, bytes: &[u8]) -> u32
+    ensures { λ r. ⌜ (r ≡ stepRecord (now (held .entry)) kind value (now (bytes .entry)) .refusal) × (now (held .exit) ≡ stepRecord (now (held .entry)) kind value (now (bytes .entry)) .left) ⌝ }
+{
+    let out = step_record(*held, kind, value, bytes);
+    *held = out.attempt;
+    out.refusal
+}
+
 fn start_number(answer: StartAnswer) -> u32
     ensures { λ r. ⌜ r ≡ refusalOf (startReply answer) ⌝ }
 {
@@ -257,7 +272,11 @@ pub extern "C" fn qv_start(
 // The own list of an attempt, for the client's Version Information: its versions and their count. Refusal: 255 for a
 // record that no attempt has, which leaves both as found.
 #[no_mangle]
-pub extern "C" fn qv_own_list(held: Record, versions: &mut [u32; MAX_TABLE], count: &mut usize) -> u32
+pub extern "C" fn qv_own_list(
+    held: Record,
+    versions: &mut [u32; MAX_TABLE],
+    count: &mut usize,
+) -> u32
     ensures answer { λ r. ⌜ r ≡ cond (isRecord held) 0 notValid ⌝ }
     ensures list { λ _. ⌜ now (versions .exit) ≡ cond (isRecord held) (padded maxTable (ownOf (attemptOf held))) (now (versions .entry)) ⌝ }
     ensures counted { λ _. ⌜ now (count .exit) ≡ cond (isRecord held) (length (ownOf (attemptOf held))) (now (count .entry)) ⌝ }

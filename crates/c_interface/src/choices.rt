@@ -7,7 +7,6 @@ ghost use Rattle.versions.specs.Version.{reserved};
 ghost use Rattle.versions.specs.Wire.{entries, entryAt};
 ghost use Rattle.server.specs.FirstFlight.{decide};
 ghost use Rattle.c_interface.specs.Numbers.{flag, refusalOf, leaving, itself, isThere, valueOr, presenceOf, forKnown, actNumber};
-
 use crate::NOT_VALID;
 use information::Presence;
 use server::Decision;
@@ -84,8 +83,8 @@ pub extern "C" fn qv_choose_from_bytes(table: &[u32], bytes: &[u8], version: &mu
 {
     match choose_from_bytes(table, bytes) {
         Choice::Refused(refusal) => refusal.0 as u32,
-        Choice::Version(chosen) => {
-            *version = chosen;
+        Choice::Version(preferred) => {
+            *version = preferred;
             0
         }
     }
@@ -107,14 +106,45 @@ pub extern "C" fn qv_server_choice(
     ensures answer { λ r. ⌜ r ≡ refusalOf (forKnown (λ p. decide (now (readable .entry)) (now (accepted .entry)) (now (pairs .entry)) version p (now (information .entry))) (presenceOf presence)) ⌝ }
     ensures left { λ _. ⌜ now (decision .exit) ≡ leaving actNumber (forKnown (λ p. decide (now (readable .entry)) (now (accepted .entry)) (now (pairs .entry)) version p (now (information .entry))) (presenceOf presence)) (now (decision .entry)) ⌝ }
 {
-    if 1 < presence {
-        return NOT_VALID;
+    if presence == 0 {
+        return choice_with(
+            readable,
+            accepted,
+            pairs,
+            version,
+            Presence::Missing,
+            information,
+            decision,
+        );
     }
-    let mut known = Presence::Missing;
     if presence == 1 {
-        known = Presence::Given;
+        return choice_with(
+            readable,
+            accepted,
+            pairs,
+            version,
+            Presence::Given,
+            information,
+            decision,
+        );
     }
-    match choose_after_first_flight(readable, accepted, pairs, version, known, information) {
+    NOT_VALID
+}
+
+// The server's choice with Version Information that is known to be missing or given.
+fn choice_with(
+    readable: &[u32],
+    accepted: &[u32],
+    pairs: &[[u32; 2]],
+    version: u32,
+    presence: Presence,
+    information: &[u8],
+    decision: &mut u32,
+) -> u32
+    ensures answer { λ r. ⌜ r ≡ refusalOf (decide (now (readable .entry)) (now (accepted .entry)) (now (pairs .entry)) version presence (now (information .entry))) ⌝ }
+    ensures left { λ _. ⌜ now (decision .exit) ≡ leaving actNumber (decide (now (readable .entry)) (now (accepted .entry)) (now (pairs .entry)) version presence (now (information .entry))) (now (decision .entry)) ⌝ }
+{
+    match choose_after_first_flight(readable, accepted, pairs, version, presence, information) {
         Decision::Refused(refusal) => refusal.0 as u32,
         Decision::Negotiate => {
             *decision = 0;

@@ -1,12 +1,12 @@
 // Headers, Version Negotiation packets and Version Information as numbers and buffers.
+ghost use mathlib.Core.List.{[], _∷_};
 ghost use mathlib.Core.Path.{_≡_};
 ghost use lib.ListN.{length};
-ghost use Rattle.refusals.specs.Written.{counted, leaves};
+ghost use Rattle.refusals.specs.Written.{leaves};
 ghost use Rattle.invariants.specs.Header.{readHeader};
 ghost use Rattle.invariants.specs.Packet.{negotiationPacket};
 ghost use Rattle.information.specs.Information.{readInformation, informationToWrite};
-ghost use Rattle.c_interface.specs.Numbers.{refusalOf, leaving, itself, formNumber, formVersion, formPlaces, senderOf, forKnown, chosenIn, startIn, endIn};
-
+ghost use Rattle.c_interface.specs.Numbers.{refusalOf, leaving, formNumber, formVersion, formPlaces, senderOf, forKnown, chosenIn, startIn, endIn};
 use crate::NOT_VALID;
 use information::Information;
 use information::Sender;
@@ -16,6 +16,7 @@ use invariants::Header;
 use invariants::reader::read_header;
 use invariants::writer::write_version_negotiation;
 use refusals::Written;
+use versions::Span;
 
 // Reads a header. Refusals: 11, 12, 13, which leave all as found; else 0. `form` is 1 long, 2 short, 3 Version
 // Negotiation; `version` is a long form's, else 0; `places` are start and end of the destination ID, the source ID
@@ -41,15 +42,17 @@ pub extern "C" fn qv_read_header(
             source,
             rest,
         } => {
+            let found = places_of(destination, source, rest);
             *form = 1;
             *version = number;
-            *places = [destination.start, destination.end, source.start, source.end, rest.start, rest.end];
+            *places = found;
             0
         }
         Header::Short { destination, rest } => {
+            let found = places_of(destination, Span { start: 0, end: 0 }, rest);
             *form = 2;
             *version = 0;
-            *places = [destination.start, destination.end, 0, 0, rest.start, rest.end];
+            *places = found;
             0
         }
         Header::VersionNegotiation {
@@ -57,12 +60,27 @@ pub extern "C" fn qv_read_header(
             source,
             list,
         } => {
+            let found = places_of(destination, source, list);
             *form = 3;
             *version = 0;
-            *places = [destination.start, destination.end, source.start, source.end, list.start, list.end];
+            *places = found;
             0
         }
     }
+}
+
+// Start and end of three parts, in their order.
+fn places_of(first: Span, second: Span, third: Span) -> [usize; 6]
+    ensures { λ r. ⌜ r ≡ first .start ∷ first .end ∷ second .start ∷ second .end ∷ third .start ∷ third .end ∷ [] ⌝ }
+{
+    [
+        first.start,
+        first.end,
+        second.start,
+        second.end,
+        third.start,
+        third.end,
+    ]
 }
 
 // Writes the Version Negotiation packet that answers a received datagram. Refusals: 11, 12, 21 to 26, which leave
@@ -81,8 +99,8 @@ pub extern "C" fn qv_write_version_negotiation(
 {
     match write_version_negotiation(received, offered, unused_bits, buffer) {
         Written::Refused(refusal) => refusal.0 as u32,
-        Written::Count(written) => {
-            *count = written;
+        Written::Count(packet_length) => {
+            *count = packet_length;
             0
         }
     }
@@ -103,14 +121,29 @@ pub extern "C" fn qv_read_information(
     ensures start { λ _. ⌜ now (start .exit) ≡ leaving startIn (forKnown (λ s. readInformation s (now (bytes .entry))) (senderOf sender)) (now (start .entry)) ⌝ }
     ensures end { λ _. ⌜ now (end .exit) ≡ leaving endIn (forKnown (λ s. readInformation s (now (bytes .entry))) (senderOf sender)) (now (end .entry)) ⌝ }
 {
-    if 1 < sender {
-        return NOT_VALID;
+    if sender == 0 {
+        return read_as(Sender::Client, bytes, chosen, start, end);
     }
-    let mut known = Sender::Client;
     if sender == 1 {
-        known = Sender::Server;
+        return read_as(Sender::Server, bytes, chosen, start, end);
     }
-    match read_information(known, bytes) {
+    NOT_VALID
+}
+
+// Reads the Version Information of a known sender.
+fn read_as(
+    sender: Sender,
+    bytes: &[u8],
+    chosen: &mut u32,
+    start: &mut usize,
+    end: &mut usize,
+) -> u32
+    ensures answer { λ r. ⌜ r ≡ refusalOf (readInformation sender (now (bytes .entry))) ⌝ }
+    ensures chosen { λ _. ⌜ now (chosen .exit) ≡ leaving chosenIn (readInformation sender (now (bytes .entry))) (now (chosen .entry)) ⌝ }
+    ensures start { λ _. ⌜ now (start .exit) ≡ leaving startIn (readInformation sender (now (bytes .entry))) (now (start .entry)) ⌝ }
+    ensures end { λ _. ⌜ now (end .exit) ≡ leaving endIn (readInformation sender (now (bytes .entry))) (now (end .entry)) ⌝ }
+{
+    match read_information(sender, bytes) {
         Information::Refused(refusal) => refusal.0 as u32,
         Information::Read {
             chosen: version,
@@ -138,17 +171,31 @@ pub extern "C" fn qv_write_information(
     ensures left { λ _. ⌜ now (buffer .exit) ≡ leaves (forKnown (λ s. informationToWrite s chosen (now (available .entry)) (length (now (buffer .entry)))) (senderOf sender)) (now (buffer .entry)) ⌝ }
     ensures counted { λ _. ⌜ now (count .exit) ≡ leaving length (forKnown (λ s. informationToWrite s chosen (now (available .entry)) (length (now (buffer .entry)))) (senderOf sender)) (now (count .entry)) ⌝ }
 {
-    if 1 < sender {
-        return NOT_VALID;
+    if sender == 0 {
+        return write_as(Sender::Client, chosen, available, buffer, count);
     }
-    let mut known = Sender::Client;
     if sender == 1 {
-        known = Sender::Server;
+        return write_as(Sender::Server, chosen, available, buffer, count);
     }
-    match write_information(known, chosen, available, buffer) {
+    NOT_VALID
+}
+
+// Writes the Version Information of a known sender.
+fn write_as(
+    sender: Sender,
+    chosen: u32,
+    available: &[u32],
+    buffer: &mut [u8],
+    count: &mut usize,
+) -> u32
+    ensures answer { λ r. ⌜ r ≡ refusalOf (informationToWrite sender chosen (now (available .entry)) (length (now (buffer .entry)))) ⌝ }
+    ensures left { λ _. ⌜ now (buffer .exit) ≡ leaves (informationToWrite sender chosen (now (available .entry)) (length (now (buffer .entry)))) (now (buffer .entry)) ⌝ }
+    ensures counted { λ _. ⌜ now (count .exit) ≡ leaving length (informationToWrite sender chosen (now (available .entry)) (length (now (buffer .entry)))) (now (count .entry)) ⌝ }
+{
+    match write_information(sender, chosen, available, buffer) {
         Written::Refused(refusal) => refusal.0 as u32,
-        Written::Count(written) => {
-            *count = written;
+        Written::Count(information_length) => {
+            *count = information_length;
             0
         }
     }

@@ -1,20 +1,20 @@
 -- What every attempt keeps: its counts, which a start makes and no event changes. So the blank record of a refused
 -- start is no attempt.
 use Prim.Native.Nat.{ℕ, _≤_}
-use mathlib.Core.Bool.{Bool, true, false, cond, not, _||_, Bool·not-not, false≢true}
+use mathlib.Core.Bool.{Bool, true, false, cond, not, and-false, or-true, false≢true}
 use mathlib.Core.List.{List, [], _∷_}
 use mathlib.Core.Option.{Option, Option.none, Option.some}
 use mathlib.Core.Path.{_≡_, refl, sym, subst, _∙_}
 use native.Mathlib.Omega.{arith}
-use lib.Dec.{leb, ltb}
+use lib.Dec.{ltb}
 use lib.ListN.{length}
-use borrow.Author.Tests.{leb-true, ltb-false}
+use borrow.Author.Tests.{ltb-false, not-false}
 use Rattle.refusals.specs.Rule.{Rule, Rule._when_, lowest}
-use Rattle.refusals.proofs.Rules.{both-true, lowest-any}
+use Rattle.versions.proofs.Lists.{table-counts}
+use Rattle.refusals.proofs.Rules.{lowest-any}
 use Rattle.versions.specs.Choice.{preferred}
 use Rattle.versions.specs.Limits.{maxTable}
-use Rattle.versions.specs.Pairs.{pairsKeepRule}
-use Rattle.versions.specs.Table.{elem, tableKeepsRule}
+use Rattle.versions.specs.Table.{tableKeepsRule}
 use Rattle.invariants.specs.Header.{listed}
 use Rattle.client.specs.Attempt.{tableOf, isOpen, put, ended}
 use Rattle.client.specs.Events.{Handed, run, Reachable}
@@ -73,36 +73,27 @@ module _ (P : Attempt → Type 0) where
 
 -- The counts
 
-pub table-counts : (t : List ℕ) → tableKeepsRule t ≡ true → (1 ≤ length t) × (length t ≤ maxTable)
-unfolding tableKeepsRule
-table-counts t h =
-    let a = both-true (leb 1 (length t)) _ h in
-    let b = both-true (leb (length t) maxTable) _ (a .1) in
-    (leb-true _ _ (a .0), leb-true _ _ (b .0))
-
-neither : (a b : Bool) → not (a || b) ≡ true → (a ≡ false) × (b ≡ false)
-neither true b h = absurd (false≢true h)
-neither false true h = absurd (false≢true h)
-neither false false h = (refl, refl)
+-- An accepted start breaks no rule
+not-broken : {accepted : Bool} (broken : Bool) → (broken ≡ true → accepted ≡ false) → accepted ≡ true → broken ≡ false
+not-broken true refuses h = absurd (false≢true (sym (refuses refl) ∙ h))
+not-broken false refuses h = refl
 
 -- Each count is within its array, and a table has an entry
-abbrev CountsFit : Attempt → Type 0
-CountsFit a =
+abbrev Counted : Attempt → Type 0
+Counted a =
     (1 ≤ a .«table_len») × (a .«table_len» ≤ maxTable) × (a .«destination_len» ≤ maxID) × (a .«source_len» ≤ maxID)
 
-opened-counts : (x : Input) → isAccepted x ≡ true → CountsFit (opened x)
+opened-counts : (x : Input) → isAccepted x ≡ true → Counted (opened x)
 unfolding opened
 opened-counts x h =
-    let t = both-true (not (not (tableKeepsRule (x .table)))) _ h in
-    let p = both-true (not (not (pairsKeepRule (x .pairs)))) _ (t .1) in
-    let o = both-true (not (not (elem (x .original) (x .table)))) _ (p .1) in
-    let long = both-true (not (ltb maxID (length (x .destination)) || ltb maxID (length (x .source)))) _ (o .1) in
-    let ids = neither (ltb maxID (length (x .destination))) (ltb maxID (length (x .source))) (long .0) in
-    let counts = table-counts (x .table) (sym (Bool·not-not (tableKeepsRule (x .table))) ∙ t .0) in
-    (counts .0, counts .1, ltb-false _ _ (ids .0), ltb-false _ _ (ids .1))
+    let table = not-broken (not (tableKeepsRule (x .table))) (λ e. simp (e, and-false)) h in
+    let destination = not-broken (ltb maxID (length (x .destination))) (λ e. simp (e, and-false)) h in
+    let source = not-broken (ltb maxID (length (x .source))) (λ e. simp (e, or-true, and-false)) h in
+    let counts = table-counts (x .table) (not-false _ table) in
+    (counts .0, counts .1, ltb-false _ _ destination, ltb-false _ _ source)
 
-every-count : (a : Attempt) → Reachable a → CountsFit a
-every-count a r = reachable-any CountsFit (λ b kept v acted heard e. kept) opened-counts a r
+every-count : (a : Attempt) → Reachable a → Counted a
+every-count a r = reachable-any Counted (λ b kept v acted heard e. kept) opened-counts a r
 
 pub reachable-counts : {a : Attempt} → Reachable a →
     (a .«table_len» ≤ maxTable) × (a .«destination_len» ≤ maxID) × (a .«source_len» ≤ maxID)

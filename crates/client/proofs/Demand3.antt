@@ -5,10 +5,10 @@
 -- the same version." The terms are defined in specs/Demand.antt; `startOf` and `run` are the definitions that the
 -- contracts of the public start and step equate.
 use Prim.Native.Nat.{ℕ}
-use mathlib.Core.Bool.{Bool, true, false, not, _&&_, _||_, cond, or-false, false≢true}
+use mathlib.Core.Bool.{Bool, true, false, not, _||_, or-false, false≢true}
 use mathlib.Core.List.{List, [], _∷_, _++_}
 use mathlib.Core.Logic.{_≢_, _↔_}
-use mathlib.Core.Option.{Option, Option.none, Option.some, Option·some-injective, Option·none-ne-some}
+use mathlib.Core.Option.{Option, Option.none, Option.some, Option·some-injective}
 use mathlib.Core.Path.{_≡_, refl, sym, ap, _∙_}
 use lib.Dec.{eqb, eqb·suc-zero}
 use lib.ListN.{length}
@@ -22,12 +22,12 @@ use Rattle.client.specs.Attempt.{isCompleted}
 use Rattle.client.specs.Demand.{actedWith, Handshake, outcomeAt, firstOutcome, VersionInformation, informationOf, Good, CompletedAgainst}
 use Rattle.client.specs.Events.{Handed, run}
 use Rattle.client.specs.OwnList.{ownList}
-use Rattle.client.specs.Start.{Input, Start, Nothing, Nothing.nothing, startRules, isAccepted, startOf, refusedStart, opened}
+use Rattle.client.specs.Start.{Input, Start, Nothing.nothing, startRules, isAccepted, startOf, refusedStart, opened}
 use Rattle.client.specs.Step.{picks}
 use Rattle.client.specs.declared.Attempt.{Attempt}
 use Rattle.client.specs.declared.Event.{Event}
 use Rattle.client.specs.declared.Event.the-variants.{Datagram, PacketProcessed, Outcome}
-use Rattle.client.proofs.Phases.{Reads, Fresh, opened-reads, fresh-run, isGoodInformation, isGoodAt, firstIsGood}
+use Rattle.client.proofs.Phases.{Fresh, opened-reads, fresh-run, isGoodInformation, isGoodAt, firstIsGood}
 
 -- The start
 

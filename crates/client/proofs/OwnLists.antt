@@ -2,12 +2,12 @@
 use Prim.Native.Nat.{ℕ, _+_, _*_, _/_, _%_}
 use mathlib.Core.Bool.{Bool, true, false, cond, _||_, false≢true}
 use mathlib.Core.List.{List, [], _∷_, _++_}
-use mathlib.Core.Path.{_≡_, refl, sym, ap, _∙_}
+use mathlib.Core.Path.{_≡_, refl, ap}
 use native.Mathlib.Omega.{arith}
 use lib.Dec.{eqb}
 use borrow.Author.Tests.{eqb-true}
 use Rattle.versions.specs.Table.{elem}
-use Rattle.client.specs.OwnList.{mayBeAnswered, keepIf, bit, ownList, wordFor, rowsFor, members, wordOf}
+use Rattle.client.specs.OwnList.{mayBeAnswered, bit, ownList, wordFor, rowsFor, members, wordOf}
 
 -- the lowest bit of a word, and the rest of it
 lowest-bit : (b : Bool) (w : ℕ) → eqb ((bit b + 2 * w) % 2) 1 ≡ b

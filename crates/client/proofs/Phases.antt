@@ -1,10 +1,10 @@
 -- The phases of an attempt: not yet acted, acted, ended. Each is told by the end mark, the two flags and what is read
 -- of the start, never by the record as a whole.
 use Prim.Native.Nat.{ℕ}
-use mathlib.Core.Bool.{Bool, true, false, cond, not, _&&_, _||_, Bool·not-not, and-true, and-false, or-true, false≢true}
+use mathlib.Core.Bool.{Bool, true, false, cond, not, _&&_, _||_, Bool·not-not, and-true, and-false, or-true}
 use mathlib.Core.List.{List, [], _∷_, _++_}
 use mathlib.Core.Option.{Option, Option.none, Option.some, Option·some-injective, Option·none-ne-some}
-use mathlib.Core.Path.{_≡_, refl, sym, ap, subst, _∙_}
+use mathlib.Core.Path.{_≡_, refl, ap, _∙_}
 use lib.Dec.{eqb}
 use lib.ListN.{length, drop, replicate}
 use lib.Seq.{take-append-seam}
@@ -21,9 +21,9 @@ use Rattle.information.specs.declared.Presence.the-variants.{Missing, Given}
 use Rattle.client.specs.Attempt.{padded, tableOf, destinationOf, sourceOf, ownFor, ownOf, isOpen, isCompleted, put, ended}
 use Rattle.client.specs.Demand.{fits, actedAt, actedWith, VersionInformation, standIn, informationRead}
 use Rattle.client.specs.Events.{Handed, run}
-use Rattle.client.specs.OwnList.{ownList, rowsFor}
+use Rattle.client.specs.OwnList.{ownList}
 use Rattle.client.specs.Start.{Input, opened}
-use Rattle.client.specs.Step.{After, datagramRules, outcomeRules, missingRules, informationRules, actOn, picks, unchanged, closed, after, otherConnection, Effect, Effect.acts, Effect.completes, stepOf, onDatagram, onProcessed, onOutcome}
+use Rattle.client.specs.Step.{After, datagramRules, outcomeRules, missingRules, informationRules, actOn, picks, unchanged, closed, after, Effect, Effect.completes, stepOf, onDatagram, onProcessed, onOutcome}
 use Rattle.client.specs.declared.Attempt.{Attempt}
 use Rattle.client.specs.declared.End.{End}
 use Rattle.client.specs.declared.End.the-variants as end

@@ -1,7 +1,7 @@
 -- Every step keeps its premise: the record is a start's, changed since by events alone.
 use Prim.Native.Nat.{ℕ}
 use mathlib.Core.List.{List, [], _∷_, _++_}
-use mathlib.Core.Path.{_≡_, refl, ap, subst, _∙_}
+use mathlib.Core.Path.{_≡_, refl, ap, _∙_}
 use Rattle.client.specs.Events.{Handed, run, Reachable}
 use Rattle.client.specs.Start.{startOf}
 use Rattle.client.specs.Step.{After, stepOf, shown}

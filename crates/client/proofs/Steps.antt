@@ -1,6 +1,6 @@
 -- What a step does, along its code.
 use Prim.Native.Nat.{ℕ, _≤_, _<_, _/_}
-use mathlib.Core.Bool.{Bool, true, false, cond, not, _&&_, _||_, and-false}
+use mathlib.Core.Bool.{Bool, true, false, not, and-false}
 use mathlib.Core.List.{List, [], _∷_, _++_, append-nil, Option·toList}
 use mathlib.Core.Option.{Option, Option.none, Option.some}
 use mathlib.Core.Path.{_≡_, refl, sym, ap, _∙_}
@@ -8,7 +8,7 @@ use borrow.Author.Tests.{leb-true, le-leb, lt-leb, ne-eqb}
 use native.Mathlib.Omega.{arith}
 use lib.Dec.{eqb, leb}
 use lib.ListN.{length}
-use Rattle.refusals.specs.Rule.{Rule, Rule._when_, lowest}
+use Rattle.refusals.specs.Rule.{Rule._when_, lowest}
 use Rattle.refusals.proofs.Rules.{both-true}
 use Rattle.versions.specs.Choice.{preferred}
 use Rattle.versions.specs.Limits.{maxTable}
@@ -21,7 +21,6 @@ use Rattle.client.specs.Attempt.{tableOf, ownOf, isOpen, put, ended}
 use Rattle.client.specs.Step.{After, unchanged, closed, after, Effect.notes, Effect.completes, picks, outcomeRules, missingRules, onProcessed, stepOf, stepOfAny, countsFit}
 use Rattle.client.specs.declared.Attempt.{Attempt}
 use Rattle.client.specs.declared.Event.{Event}
-use Rattle.client.specs.declared.End.{End}
 use Rattle.client.specs.declared.End.the-variants.{Open, Completed}
 
 -- The counts

@@ -12,7 +12,7 @@ use Rattle.versions.specs.Choice.{choose, preferred}
 use Rattle.versions.specs.Pairs.{paired, pairKeepsRule, eachPairKeepsRule, pairsKeepRule}
 use Rattle.versions.specs.Table.{elem, entriesKeepRule, tableKeepsRule}
 use Rattle.versions.specs.Version.{reserved, usable}
-use Rattle.versions.specs.Wire.{entries, bytesOf, listBytes}
+use Rattle.versions.specs.Wire.{entries, listBytes}
 use Rattle.invariants.specs.Header.{isReadableNegotiation}
 use Rattle.information.specs.Information.{informationBytes}
 use Rattle.information.specs.declared.Presence.the-variants.{Missing, Given}

@@ -1,12 +1,12 @@
 -- Demand 3's terms, read from the start and the events, never from the record.
 use Prim.Native.Nat.{ℕ}
-use mathlib.Core.Bool.{Bool, true, false, cond, not}
+use mathlib.Core.Bool.{Bool, true, cond, not}
 use mathlib.Core.List.{List, [], _∷_, _++_}
 use mathlib.Core.Option.{Option, Option.none, Option.some}
 use mathlib.Core.Logic.{_≢_}
 use mathlib.Core.Path.{_≡_}
 use lib.Dec.{eqb}
-use Rattle.refusals.specs.Rule.{Rule, Rule._when_, clear}
+use Rattle.refusals.specs.Rule.{Rule._when_, clear}
 use Rattle.versions.specs.Choice.{preferred}
 use Rattle.versions.specs.Table.{elem}
 use Rattle.invariants.specs.Header.{isReadableNegotiation, listed}

@@ -2,7 +2,7 @@
 -- it." As a list, and as the record keeps it: a word for each table entry, bit j for table entry j.
 use Prim.Native.Nat.{ℕ, _+_, _*_, _/_, _%_}
 use mathlib.Core.Bool.{Bool, true, false, cond, _||_}
-use mathlib.Core.List.{List, [], _∷_, map}
+use mathlib.Core.List.{List, [], _∷_}
 use lib.Dec.{eqb}
 use Rattle.versions.specs.Pairs.{paired}
 

@@ -4,8 +4,8 @@ use mathlib.Core.Bool.{Bool, false, not, _||_}
 use mathlib.Core.List.{List, [], _∷_}
 use lib.Dec.{ltb}
 use lib.ListN.{length, replicate}
-use Rattle.refusals.specs.Reply.{Reply, Reply.refused, Reply.answered, refuse}
-use Rattle.refusals.specs.Rule.{Rule, Rule._when_, judged, lowest, clear}
+use Rattle.refusals.specs.Reply.{Reply, Reply.answered, refuse}
+use Rattle.refusals.specs.Rule.{Rule, Rule._when_, lowest, clear}
 use Rattle.refusals.specs.declared.Call.the-variants.{Reading}
 use Rattle.versions.specs.Limits.{maxTable}
 use Rattle.versions.specs.Pairs.{pairsKeepRule}

@@ -1,7 +1,6 @@
 -- Worked lengths of document 01, "Information of 0 or 3 bytes: 31; 5: 32; 1,024: read; 1,026: 32; 1,028: 33". Each is
 -- computed from the definitions alone. Every byte is 1, so that no version is 0 and the Chosen Version is available.
 use Prim.Native.Nat.{ℕ}
-use mathlib.Core.List.{List}
 use mathlib.Core.Path.{_≡_, refl}
 use lib.ListN.{replicate}
 use Rattle.refusals.specs.Reply.{Reply, Reply.answered, refuse}

@@ -5,10 +5,10 @@ use mathlib.Core.Bool.{Bool, true, false, not, _&&_, _||_, true≢false, false�
 use mathlib.Core.List.{List, [], _∷_, _++_}
 use mathlib.Core.Path.{_≡_, refl, sym, ap, _∙_, subst}
 use native.Mathlib.Omega.{arith}
-use lib.Dec.{eqb, ltb, leb}
+use lib.Dec.{eqb, ltb}
 use lib.ListN.{length, take, drop, getD, length-append}
 use lib.Seq.{getD-drop, getD-at, drop-drop, drop-at, take-at}
-use borrow.Author.Tests.{ltb-false, eqb-false, leb-true, not-true, not-false, le-ltb, le-leb, eq-eqb, ne-eqb}
+use borrow.Author.Tests.{ltb-false, eqb-false, not-true, not-false, le-ltb, le-leb, eq-eqb, ne-eqb}
 use Rattle.refusals.specs.Reply.{Reply, Reply.refused, Reply.answered, refuse}
 use Rattle.refusals.specs.Rule.{Rule, Rule._when_, clear}
 use Rattle.refusals.specs.declared.Call.the-variants.{Writing}
@@ -18,7 +18,7 @@ use Rattle.versions.specs.Table.{elem, entriesKeepRule, tableKeepsRule}
 use Rattle.versions.specs.Version.{reserved, usable}
 use Rattle.versions.specs.Wire.{entries, listBytes, versionBytes}
 use Rattle.versions.specs.declared.Span.{Span}
-use Rattle.versions.proofs.Lists.{part-rest}
+use Rattle.versions.proofs.Lists.{part-rest, table-counts}
 use Rattle.versions.proofs.Entries.{allBelow, allBelow-head, entries-listBytes, length-listBytes}
 use Rattle.invariants.specs.Header.{Form.versionNegotiation, span, isLong, versionOf, destinationLength, sourceLength, destinationID, sourceID, sourceStart, restStart, restOf, listed, longTruncated, notWhole, readHeader}
 use Rattle.invariants.specs.Limits.{maxConnectionID, maxDatagram, maxUnusedBits}
@@ -132,20 +132,12 @@ getD-below bound i [] h e = h
 getD-below bound zero (x ∷ xs) h e = allBelow-head bound x xs e .0
 getD-below bound (suc i) (x ∷ xs) h e = getD-below bound i xs h (allBelow-head bound x xs e .1)
 
--- "A table of versions has 1 to 16 entries"
-pub table-length : (o : List ℕ) → tableKeepsRule o ≡ true → (1 ≤ length o) × (length o ≤ maxTable)
-unfolding tableKeepsRule
-table-length o e =
-    let p = both-true (leb 1 (length o)) (leb (length o) maxTable && entriesKeepRule o) e in
-    let q = both-true (leb (length o) maxTable) (entriesKeepRule o) (p .1) in
-    (leb-true 1 (length o) (p .0), leb-true (length o) maxTable (q .0))
-
 packet-at-most : (r o : List ℕ) (bits room : ℕ) → Judged r o bits room → allBelow 256 r ≡ true
     → length (packetFor r o bits) ≤ maxPacket
 packet-at-most r o bits room j e =
     let d = getD-below 256 5 r (omega arith) e in
     let s = getD-below 256 (6 + destinationLength r) r (omega arith) e in
-    let t = table-length o (j .table) in
+    let t = table-counts o (j .table) in
     rw (length-packetFor r o bits (j .complete)) (omega arith)
 
 pub count-at-most : (r o : List ℕ) (bits room : ℕ) (bytes : List ℕ)
@@ -252,7 +244,7 @@ packet-read r o bits room j er eo =
     let rest = packet-restOf r o bits c in
     let limit : length bytes ≤ maxDatagram = omega (arith, packet-at-most r o bits room j er) in
     let complete : restStart bytes ≤ length bytes = omega arith in
-    let whole : notWhole (restOf bytes) ≡ false = ap notWhole rest ∙ list-whole o (table-length o (j .table) .0) in
+    let whole : notWhole (restOf bytes) ≡ false = ap notWhole rest ∙ list-whole o (table-counts o (j .table) .0) in
     let kept : listed bytes ≡ o = ap entries rest ∙ entries-listBytes o eo in
     let nd : 6 + destinationLength bytes - 6 ≡ destinationLength bytes = omega arith in
     let ns : restStart bytes - sourceStart bytes ≡ sourceLength bytes = omega arith in

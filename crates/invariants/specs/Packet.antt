@@ -1,7 +1,7 @@
 -- RFC 8999 section 6, document 01 "The packet the box sends back": the Version Negotiation packet that answers a
 -- received datagram.
 use Prim.Native.Nat.{ℕ, _+_, _*_}
-use mathlib.Core.Bool.{Bool, not, _&&_, _||_}
+use mathlib.Core.Bool.{not, _&&_, _||_}
 use mathlib.Core.List.{List, [], _∷_, _++_}
 use lib.Dec.{eqb, ltb}
 use lib.ListN.{length}

@@ -1,9 +1,10 @@
 -- The choice after a first flight along its code: the walk over the accepted versions, and what the reader of the
 -- client's Version Information answered.
 use Prim.Native.Nat.{ℕ, _+_, _<_, _≤_}
-use mathlib.Core.Bool.{true, false, cond, not}
+use mathlib.Core.Bool.{true, false, not}
 use mathlib.Core.List.{List, [], _∷_}
 use mathlib.Core.Path.{_≡_, sym, _∙_}
+use borrow.Author.Tests.{eq-eqb, ne-eqb}
 use lib.Dec.{eqb}
 use lib.ListN.{length, drop, getD, drop-of-length-le}
 use Rattle.refusals.specs.Reply.{Reply, Reply.answered, refuse}
@@ -54,8 +55,15 @@ module _ (accepted : List ℕ) (pairs : List (List ℕ)) (version : ℕ) (inform
   given-refused n e =
       read-refused Client information (refuse Reading) (after-36 (chosenOf information) (availableOf information)) n e ∙ sym apart
 
-  -- none of 31 to 36 applies
-  pub given-read : (c : ℕ) (s : Span) → Known Client information c s → given ≡ after-36 c (versionsIn information s)
-  given-read c s r =
-      rw (r .chosen-is, known-available Client information c s r)
-      (apart ∙ known-clear Client information (refuse Reading) (after-36 (chosenOf information) (availableOf information)) c s r)
+  -- what was read: none of 31 to 36 applies
+  module _ (c : ℕ) (s : Span) (r : Known Client information c s) where
+    given-read : given ≡ after-36 c (versionsIn information s)
+    given-read =
+        rw (r .chosen-is, known-available Client information c s r)
+        (apart ∙ known-clear Client information (refuse Reading) (after-36 (chosenOf information) (availableOf information)) c s r)
+
+    pub given-other : (c ≡ version → ⊥) → refuse Reading 51 ≡ given
+    given-other h = rw (given-read, ne-eqb c version h)
+
+    pub given-same : c ≡ version → answered (firstAccepted accepted pairs c (versionsIn information s)) ≡ given
+    given-same h = rw (given-read, eq-eqb c version h)

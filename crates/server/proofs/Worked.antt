@@ -3,9 +3,7 @@
 use Prim.Native.Nat.{ℕ}
 use mathlib.Core.List.{List, [], _∷_}
 use mathlib.Core.Path.{_≡_, refl}
-use Rattle.refusals.specs.Close.{closeOf, codeIn}
 use Rattle.refusals.specs.Reply.{Reply, Reply.answered, refuse}
-use Rattle.refusals.specs.Table.{table}
 use Rattle.refusals.specs.declared.Call.the-variants.{Reading}
 use Rattle.versions.specs.Pairs.{paired, pairKeepsRule, eachPairKeepsRule, pairsKeepRule}
 use Rattle.versions.specs.Table.{elem, entriesKeepRule, tableKeepsRule}

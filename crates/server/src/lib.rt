@@ -92,12 +92,7 @@ fn choose_with_information(
 }
 
 // The first accepted version that the server may use, in the order of the server's table.
-fn first_accepted(
-    accepted: &[u32],
-    pairs: &[[u32; 2]],
-    chosen: u32,
-    available: &[u8],
-) -> Decision
+fn first_accepted(accepted: &[u32], pairs: &[[u32; 2]], chosen: u32, available: &[u8]) -> Decision
     ensures { λ r. ⌜ decisionReply r ≡ answered (firstAccepted (now (accepted .entry)) (now (pairs .entry)) chosen (entries (now (available .entry)))) ⌝ }
 {
     let mut i = 0;

@@ -5,7 +5,7 @@
 use Prim.Native.Nat.{ℕ, suc, _≤_}
 use native.Mathlib.Nat.{ℕ-set}
 use native.Mathlib.Omega.{arith}
-use mathlib.Core.Bool.{Bool, true, false, cond, _||_, or-true, or-assoc, true≢false, false≢true, Bool-set}
+use mathlib.Core.Bool.{Bool, true, false, cond, _||_, or-true, or-assoc, false≢true, Bool-set}
 use mathlib.Core.List.{List, [], _∷_, _++_, append-nil, Option·toList}
 use mathlib.Core.List.{Perm, List·Permᴰ, List·Permᴰ·nil, List·Permᴰ·cons, List·Permᴰ·swap, List·Permᴰ·trans}
 use mathlib.Core.Logic.{∥∥₁-elim}

@@ -9,10 +9,13 @@ use native.Mathlib.Nat.{le-refl}
 use native.Mathlib.Numerals.{add-one}
 use lib.ListN.{length, take, drop, getD, length-drop, drop-of-length-le}
 use lib.Seq.{drop-cons, take-all}
-use borrow.Author.Tests.{eq-eqb, ne-eqb}
+use borrow.Author.Tests.{eq-eqb, ne-eqb, leb-true}
+use lib.Dec.{leb}
+use Rattle.refusals.proofs.Rules.{both-true}
 use Rattle.versions.specs.Choice.{preferred}
+use Rattle.versions.specs.Limits.{maxTable}
 use Rattle.versions.specs.Pairs.{fromOf, toOf, pairKeepsRule, eachPairKeepsRule, paired}
-use Rattle.versions.specs.Table.{elem, entriesKeepRule}
+use Rattle.versions.specs.Table.{elem, entriesKeepRule, tableKeepsRule}
 use Rattle.versions.specs.Version.{usable}
 
 -- The rest at a place is the entry there and the rest after it
@@ -57,6 +60,14 @@ module _ (xs : List ℕ) (i : ℕ) where
   pub table-end : length xs ≤ i → entriesKeepRule (drop i xs) ≡ true
   unfolding entriesKeepRule
   table-end h = rw (drop-of-length-le xs h)
+
+-- "A table of versions has 1 to 16 entries"
+pub table-counts : (t : List ℕ) → tableKeepsRule t ≡ true → (1 ≤ length t) × (length t ≤ maxTable)
+unfolding tableKeepsRule
+table-counts t h =
+    let a = both-true (leb 1 (length t)) _ h in
+    let b = both-true (leb (length t) maxTable) _ (a .1) in
+    (leb-true _ _ (a .0), leb-true _ _ (b .0))
 
 -- `eachPairKeepsRule`
 module _ (ps : List (List ℕ)) (i : ℕ) where

@@ -1,7 +1,7 @@
 -- Versions on the wire. Document 01: "Numbers are big endian", a version is 4 bytes, a list of versions is its
 -- entries one after the other.
 use Prim.Native.Nat.{ℕ, zero, suc, _+_, _*_, _/_, _%_}
-use mathlib.Core.Bool.{Bool, cond}
+use mathlib.Core.Bool.{cond}
 use mathlib.Core.List.{List, [], _∷_, _++_}
 use mathlib.Core.Option.{Option, Option.none, Option.some}
 use lib.Dec.{leb}

@@ -1,11 +1,9 @@
+-- `all_numbers` meets its contract: the constants are the numbers of the table, in its order.
 use mathlib.Core.Path.{refl}
 use Rattle.refusals.specs.Table.{numbers, numbersOf, table}
 use Rattle.refusals.proofs.all_numbers.Statement.{statement}
 use Rattle.refusals.proofs.all_numbers.Tie as tie
-use Rattle.refusals.proofs.all_numbers.Reads as reads
-use Rattle.refusals.proofs.all_numbers.Lts as lts
 
--- src/lib.rt:83:1
 returns : tie.Need-returns
 unfolding numbers numbersOf table
 returns c = refl

@@ -1,12 +1,11 @@
 -- `choose_after_first_flight` meets its contract: the tests in the order of the code are the paper's order.
 use mathlib.Core.Bool.{true}
-use mathlib.Core.Path.{_≡_, sym, ap, _∙_}
+use mathlib.Core.Path.{_≡_, sym, _∙_}
 use borrow.Author.Needs.{needs}
 use borrow.Author.Tests.{not-true, not-false}
 use denote.Ref.{now}
 use Rattle.versions.specs.Pairs.{pairsKeepRule}
-use Rattle.versions.specs.Table.{tableKeepsRule}
-use Rattle.information.specs.declared.Presence.{Presence}
+use Rattle.versions.specs.Table.{elem, tableKeepsRule}
 use Rattle.server.specs.FirstFlight.{withInformation, decide}
 use Rattle.server.proofs.choose_after_first_flight.Statement.{statement}
 use Rattle.server.proofs.choose_after_first_flight.Tie as tie
@@ -20,6 +19,13 @@ accepted-kept c = sym (c .before .is-table2 .ensures) ∙ not-false _ (c .if2 .l
 
 pairs-kept : (c : tie.Else3) → pairsKeepRule (now (c .before .before .before .before .before .before .before .before .before .args .pairs)) ≡ true
 pairs-kept c = sym (c .before .are-pairs .ensures) ∙ not-false _ (c .if3 .left)
+
+-- whether the version is readable, as `contains` answers
+held :
+    (c : tie.After-contains) →
+    let g = c .before .before .before .before .before .before .before .before .before .before .args in
+    elem (g .version) (now (g .readable)) ≡ c .contains .result
+held c = sym (c .contains .ensures)
 
 -- none of 41 and 43 applies, and the version is readable
 read-on :
@@ -35,7 +41,7 @@ read-on c =
       readable-kept (at-accepted .before .before),
       accepted-kept at-accepted,
       pairs-kept at-pairs,
-      sym (c .before .contains .ensures) ∙ not-false _ (c .if4 .left),
+      held (c .before) ∙ not-false _ (c .if4 .left),
     )
 
 is-table-requires : tie.Need-is-table-requires
@@ -78,7 +84,7 @@ returns-4 c =
       readable-kept (at-accepted .before .before),
       accepted-kept at-accepted,
       pairs-kept at-pairs,
-      sym (c .before .contains .ensures) ∙ not-true _ (c .if4 .taken),
+      held (c .before) ∙ not-true _ (c .if4 .taken),
     )
 
 enum-told : tie.Need-enum-told

@@ -2,12 +2,11 @@
 use mathlib.Core.Path.{sym, ap, _∙_}
 use native.Mathlib.Omega.{arith}
 use borrow.Author.Needs.{needs}
-use borrow.Author.Tests.{eq-eqb, ne-eqb}
 use denote.Ref.{now}
 use Rattle.information.specs.Information.{informationReply}
 use Rattle.information.specs.declared.Sender.the-variants.{Client}
 use Rattle.information.proofs.Readings.{Known, read-known}
-use Rattle.server.proofs.Flights.{given-refused, given-read}
+use Rattle.server.proofs.Flights.{given-refused, given-other, given-same}
 use Rattle.server.proofs.choose_with_information.Statement.{statement}
 use Rattle.server.proofs.choose_with_information.Tie as tie
 
@@ -32,10 +31,7 @@ enum-known-chosen c = search needs
 returns : tie.Need-returns
 returns c =
     let g = c .before .before .before .before .before .before .before .args in
-    rw (
-      given-read (now (g .accepted)) (now (g .pairs)) (g .version) (now (g .information)) _ _ (known (c .before)),
-      ne-eqb _ _ (c .if1 .taken),
-    )
+    given-other (now (g .accepted)) (now (g .pairs)) (g .version) (now (g .information)) _ _ (known (c .before)) (c .if1 .taken)
 
 sub-first-accepted : tie.Need-sub-first-accepted
 sub-first-accepted c =
@@ -64,11 +60,8 @@ returns-2 c =
 returns-3 : tie.Need-returns-3
 returns-3 c =
     let g = c .before .before .before .before .before .before .before .before .before .args in
-    rw (
-      given-read (now (g .accepted)) (now (g .pairs)) (g .version) (now (g .information)) _ _ (known (c .before .before .before)),
-      eq-eqb _ _ (c .before .before .if1 .left),
-    )
-    (c .first-accepted .ensures)
+    c .first-accepted .ensures ∙
+    given-same (now (g .accepted)) (now (g .pairs)) (g .version) (now (g .information)) _ _ (known (c .before .before .before)) (c .before .before .if1 .left)
 
 pub choose-with-information-spec : {M : Type 1} → statement M
 choose-with-information-spec =

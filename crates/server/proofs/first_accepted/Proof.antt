@@ -31,10 +31,9 @@ may-use-requires c κs = search needs
 
 returns : tie.Need-returns Inv-loop μ-loop
 returns c =
-    let at = c .before .before .before .before in
     sym
     (ap answered
-    (at .loop .inv .1 ∙
+    (c .before .before .before .before .loop .inv .1 ∙
     accepted-here _ _ _ _ _ (c .before .before .before .loop-test .taken)
     (sym (c .before .may-use .ensures) ∙ c .if1 .taken)))
 

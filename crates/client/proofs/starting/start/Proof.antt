@@ -14,7 +14,7 @@ use Rattle.client.specs.Events.{Reachable, run}
 use Rattle.client.specs.Limits.{maxID}
 use Rattle.client.specs.Start.{Input, inputOf, isAccepted, Start, shownStart, startOf, refusedStart, openedStart}
 use Rattle.client.specs.declared.Started.{Started}
-use Rattle.client.proofs.Blank.{table-counts}
+use Rattle.versions.proofs.Lists.{table-counts}
 use Rattle.client.proofs.starting.start.Statement.{statement}
 use Rattle.client.proofs.starting.start.Tie as tie
 

@@ -4,14 +4,20 @@ use mathlib.Core.Path.{sym, ap, _∙_}
 use native.Mathlib.Omega.{arith}
 use denote.Ref.{now}
 use Rattle.information.specs.Information.{informationReply}
-use Rattle.client.proofs.Outcomes.{Given-read, given-refused, given-known, given-read}
+use Rattle.information.specs.declared.Sender.the-variants.{Server}
+use Rattle.information.proofs.Readings.{Known, read-known}
+use Rattle.client.proofs.Outcomes.{given-refused, given-read}
 use Rattle.client.proofs.stepping.on_given.Statement.{statement}
 use Rattle.client.proofs.stepping.on_given.Tie as tie
 
 -- what the reader found
-read : (c : tie.After-known-told2) →
-    Given-read (c .before .before .before .before .before .args .attempt) (c .before .before .before .before .before .args .in-use) (now (c .before .before .before .before .before .args .information)) (c .before .chosen .given .0 .0) (c .before .chosen .given .0 .1 .0)
-read c = given-known (c .before .before .before .before .before .args .attempt) (c .before .before .before .before .before .args .in-use) (now (c .before .before .before .before .before .args .information)) _ _ (sym (ap informationReply (c .before .chosen .given .1)) ∙ c .before .before .before .read-information .ensures)
+known :
+    (c : tie.After-known-told2) →
+    let read = c .before .chosen .given .0 in
+    Known Server (now (c .before .before .before .before .before .args .information)) (read .0) (read .1 .0)
+known c =
+    read-known Server (now (c .before .before .before .before .before .args .information)) _ _
+    (sym (ap informationReply (c .before .chosen .given .1)) ∙ c .before .before .before .read-information .ensures)
 
 read-information-requires : tie.Need-read-information-requires
 read-information-requires c κs = search needs
@@ -27,17 +33,17 @@ enum-known-chosen c = search needs
 
 sub-judge-outcome : tie.Need-sub-judge-outcome
 sub-judge-outcome c =
-    let r = read c in
+    let r = known c in
     rw (r .start-is, r .end-is) (r .long-enough)
 
 part-judge-outcome-start : tie.Need-part-judge-outcome-start
 part-judge-outcome-start c =
-    let r = read c in
+    let r = known c in
     rw (r .start-is, r .end-is) (r .long-enough)
 
 part-judge-outcome-end : tie.Need-part-judge-outcome-end
 part-judge-outcome-end c =
-    let r = read c in
+    let r = known c in
     rw (r .end-is) (omega arith)
 
 judge-outcome-requires : tie.Need-judge-outcome-requires
@@ -53,7 +59,7 @@ returns c =
 returns-2 : tie.Need-returns-2
 returns-2 c =
     let g = c .before .before .before .before .before .before .before .args in
-    c .judge-outcome .ensures ∙ given-read (g .attempt) (g .in-use) (now (g .information)) _ _ (read (c .before .before))
+    c .judge-outcome .ensures ∙ given-read (g .attempt) (g .in-use) (now (g .information)) _ _ (known (c .before .before))
 
 pub on-given-spec : {M : Type 1} → statement M
 on-given-spec =

@@ -1,6 +1,6 @@
 -- `on_negotiation` meets its contract: at each exit the tests on the way decide 62 to 65.
 use borrow.Author.Needs.{needs}
-use mathlib.Core.Bool.{true, false, not, _||_}
+use mathlib.Core.Bool.{false, not, _||_}
 use mathlib.Core.List.{List}
 use mathlib.Core.Path.{_≡_, sym, ap, _∙_}
 use Prim.Native.Nat.{ℕ}

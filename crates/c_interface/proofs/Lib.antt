@@ -1,0 +1,3 @@
+pub mod Crossing
+pub mod Lossless
+pub mod Records

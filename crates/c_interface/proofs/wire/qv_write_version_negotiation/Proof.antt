@@ -1,0 +1,63 @@
+-- `qv_write_version_negotiation` meets its contract: the refusal, or 0 and the count of the packet.
+use Prim.Native.Nat.{ℕ}
+use mathlib.Core.List.{List}
+use mathlib.Core.Path.{sym, ap, _∙_}
+use borrow.Author.Needs.{needs}
+use denote.Ref.{now}
+use lib.ListN.{length}
+use Rattle.refusals.specs.Reply.{Reply}
+use Rattle.refusals.specs.Written.{writtenReply}
+use Rattle.invariants.specs.Packet.{negotiationPacket}
+use Rattle.c_interface.proofs.Crossing.{written-refusal, written-count}
+use Rattle.c_interface.proofs.wire.qv_write_version_negotiation.Statement.{statement}
+use Rattle.c_interface.proofs.wire.qv_write_version_negotiation.Tie as tie
+
+write-version-negotiation-requires : tie.Need-write-version-negotiation-requires
+write-version-negotiation-requires c κs = search needs
+
+enum-known-refusal : tie.Need-enum-known-refusal
+enum-known-refusal c = search needs
+
+cast-result : tie.Need-cast-result
+cast-result c = search needs
+
+enum-known-packet-length : tie.Need-enum-known-packet-length
+enum-known-packet-length c = search needs
+
+same-length : tie.Need-same-length
+same-length c = search needs
+
+-- What has to be written
+abbrev owed : tie.Start → Reply (List ℕ)
+owed c = negotiationPacket (now (c .args .received)) (now (c .args .offered)) (c .args .unused-bits)
+    (length (now (c .args .buffer)))
+
+returns : tie.Need-returns
+returns c =
+    let w = c .before .before .before .before .before .before .write-version-negotiation .ensures in
+    let e = sym (ap writtenReply (c .before .before .refusal .given .1)) ∙ w .0 in
+    let o = owed (c .before .before .before .before .before .before .before .before .before .before .before) in
+    (written-refusal o e, (w .1, written-count o _ e))
+
+same-length-2 : tie.Need-same-length-2
+same-length-2 c = search needs
+
+returns-2 : tie.Need-returns-2
+returns-2 c =
+    let w = c .before .before .before .before .before .write-version-negotiation .ensures in
+    let e = sym (ap writtenReply (c .before .packet-length .given .1)) ∙ w .0 in
+    let o = owed (c .before .before .before .before .before .before .before .before .before .before) in
+    (written-refusal o e, (w .1, written-count o _ e))
+
+pub qv-write-version-negotiation-spec : {M : Type 1} → statement M
+qv-write-version-negotiation-spec =
+    tie.close
+    (tie.spec
+    write-version-negotiation-requires
+    enum-known-refusal
+    cast-result
+    enum-known-packet-length
+    same-length
+    returns
+    same-length-2
+    returns-2)

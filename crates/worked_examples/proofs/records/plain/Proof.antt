@@ -1,0 +1,20 @@
+-- `plain`: the start keeps every rule, by computing.
+use Rattle.worked_examples.proofs.Accepted as accepted
+use borrow.Author.Needs.{needs}
+use Rattle.worked_examples.proofs.records.plain.Statement.{statement}
+use Rattle.worked_examples.proofs.records.plain.Tie as tie
+
+slice-aggregate-open : tie.Need-slice-aggregate-open
+slice-aggregate-open c = search needs
+
+slice-aggregate-open-2 : tie.Need-slice-aggregate-open-2
+slice-aggregate-open-2 c = search needs
+
+open-requires : tie.Need-open-requires
+open-requires c κs = accepted.plain
+
+returns : tie.Need-returns
+returns c = search needs
+
+pub plain-spec : {M : Type 1} → statement M
+plain-spec = tie.close (tie.spec slice-aggregate-open slice-aggregate-open-2 open-requires returns)

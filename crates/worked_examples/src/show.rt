@@ -1,0 +1,164 @@
+// One call of a reader, a writer or a choice, and one line with its answer.
+use crate::say::hex;
+use crate::say::number;
+use crate::say::place;
+use crate::say::refused;
+use crate::say::text;
+use crate::say::version;
+use information::Information;
+use information::Presence;
+use information::Sender;
+use information::read_information;
+use information::write_information;
+use invariants::Header;
+use invariants::reader::read_header;
+use invariants::writer::write_version_negotiation;
+use refusals::Call;
+use refusals::Written;
+use server::Decision;
+use server::choose_after_first_flight;
+use versions::Choice;
+use versions::Span;
+use versions::choosing::choose_from;
+
+fn long_form(number: u32, destination: Span, source: Span, rest: Span) {
+    version(b"long form, version ", number);
+    place(b", destination ID at ", destination);
+    place(b", source ID at ", source);
+    place(b", rest at ", rest);
+}
+
+fn short_form(destination: Span, rest: Span) {
+    place(b"short form, destination ID at ", destination);
+    place(b", rest at ", rest);
+}
+
+fn negotiation(destination: Span, source: Span, list: Span) {
+    place(b"Version Negotiation, destination ID at ", destination);
+    place(b", source ID at ", source);
+    place(b", list at ", list);
+}
+
+// The header of a datagram.
+pub(crate) fn header(label: &[u8], datagram: &[u8], told: usize) {
+    text(label);
+    match read_header(datagram, told) {
+        Header::Refused(refusal) => refused(refusal, Call::Reading),
+        Header::Long {
+            version,
+            destination,
+            source,
+            rest,
+        } => long_form(version, destination, source, rest),
+        Header::Short { destination, rest } => short_form(destination, rest),
+        Header::VersionNegotiation {
+            destination,
+            source,
+            list,
+        } => negotiation(destination, source, list),
+    }
+    text(b"\n");
+}
+
+// The same of a few bytes.
+pub(crate) fn header_of(datagram: &[u8], told: usize) {
+    text(b"header of");
+    hex(datagram);
+    text(b", told length ");
+    number(told as u64);
+    header(b": ", datagram, told);
+}
+
+// What a writer answered.
+fn written(answer: Written) {
+    match answer {
+        Written::Refused(refusal) => refused(refusal, Call::Writing),
+        Written::Count(count) => {
+            number(count as u64);
+            text(b" bytes");
+        }
+    }
+}
+
+// What a writer answered, and all of its buffer after the call.
+fn written_in(answer: Written, buffer: &[u8]) {
+    written(answer);
+    text(b", buffer");
+    hex(buffer);
+    text(b"\n");
+}
+
+// The Version Negotiation packet that answers a datagram.
+pub(crate) fn packet(
+    label: &[u8],
+    datagram: &[u8],
+    offered: &[u32],
+    unused_bits: u8,
+    buffer: &mut [u8],
+) {
+    text(label);
+    let answer = write_version_negotiation(datagram, offered, unused_bits, buffer);
+    written_in(answer, buffer);
+}
+
+// The same with the count alone.
+pub(crate) fn packet_count(label: &[u8], datagram: &[u8], offered: &[u32], buffer: &mut [u8]) {
+    text(label);
+    written(write_version_negotiation(datagram, offered, 127, buffer));
+    text(b"\n");
+}
+
+// Version Information to send.
+pub(crate) fn sent(
+    label: &[u8],
+    sender: Sender,
+    chosen: u32,
+    available: &[u32],
+    buffer: &mut [u8],
+) {
+    text(label);
+    let answer = write_information(sender, chosen, available, buffer);
+    written_in(answer, buffer);
+}
+
+// Version Information that came.
+pub(crate) fn received(label: &[u8], sender: Sender, bytes: &[u8]) {
+    text(label);
+    match read_information(sender, bytes) {
+        Information::Refused(refusal) => refused(refusal, Call::Reading),
+        Information::Read { chosen, available } => {
+            version(b"Chosen ", chosen);
+            place(b", Available at ", available);
+        }
+    }
+    text(b"\n");
+}
+
+// The choice from a list.
+pub(crate) fn choice(label: &[u8], table: &[u32], list: &[u32]) {
+    text(label);
+    match choose_from(table, list) {
+        Choice::Refused(refusal) => refused(refusal, Call::Reading),
+        Choice::Version(chosen) => version(b"choose ", chosen),
+    }
+    text(b"\n");
+}
+
+// The server's choice after a first flight.
+pub(crate) fn decision(
+    label: &[u8],
+    readable: &[u32],
+    accepted: &[u32],
+    pairs: &[[u32; 2]],
+    flight: u32,
+    presence: Presence,
+    bytes: &[u8],
+) {
+    text(label);
+    match choose_after_first_flight(readable, accepted, pairs, flight, presence, bytes) {
+        Decision::Refused(refusal) => refused(refusal, Call::Reading),
+        Decision::Negotiate => text(b"negotiate"),
+        Decision::Use(chosen) => version(b"use ", chosen),
+    }
+    text(b"\n");
+}

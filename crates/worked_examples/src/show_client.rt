@@ -1,0 +1,120 @@
+// One start, own list or event of a client, and one line with its answer.
+ghost use Rattle.client.specs.Events.{Reachable};
+use crate::say::number;
+use crate::say::refused;
+use crate::say::text;
+use crate::say::version;
+use crate::say::versions;
+use client::Answer;
+use client::Attempt;
+use client::End;
+use client::Event;
+use client::StartAnswer;
+use client::own::own_list;
+use client::starting::start;
+use client::stepping::step;
+use information::Presence;
+use refusals::Call;
+
+// A start, which may be refused.
+pub(crate) fn begin(
+    label: &[u8],
+    table: &[u32],
+    pairs: &[[u32; 2]],
+    original: u32,
+    destination: &[u8],
+    source: &[u8],
+) {
+    text(label);
+    let started = start(table, pairs, original, destination, source);
+    let answer = started.answer;
+    match answer {
+        StartAnswer::Refused(refusal) => refused(refusal, Call::Reading),
+        StartAnswer::Opened => text(b"opened"),
+    }
+    text(b"\n");
+}
+
+// The own list of an attempt.
+pub(crate) fn own(label: &[u8], attempt: Attempt) {
+    text(label);
+    let own = own_list(attempt);
+    let list = own.versions;
+    let count = own.count;
+    versions(&list, count);
+    text(b"\n");
+}
+
+fn answered(answer: Answer) {
+    match answer {
+        Answer::Refused(refusal) => refused(refusal, Call::Reading),
+        Answer::Acted(attempted) => version(b"attempt ", attempted),
+        Answer::Noted => text(b"noted"),
+        Answer::Completed(in_use) => version(b"complete with ", in_use),
+    }
+}
+
+// How an attempt stands.
+fn standing(end: End) {
+    match end {
+        End::Open => text(b"; record open\n"),
+        End::Completed(in_use) => {
+            version(b"; record completed with ", in_use);
+            text(b"\n");
+        }
+        End::Closed(cause) => {
+            text(b"; record closed with ");
+            number(cause as u64);
+            text(b"\n");
+        }
+    }
+}
+
+// One event: the answer, and how the attempt stands then.
+fn event(label: &[u8], attempt: Attempt, event: Event, bytes: &[u8])
+    requires { ⌜ Reachable attempt ⌝ }
+{
+    let stepped = step(attempt, event, bytes);
+    let next = stepped.attempt;
+    let answer = stepped.answer;
+    let end = next.end;
+    text(label);
+    answered(answer);
+    standing(end);
+}
+
+// A datagram came.
+pub(crate) fn datagram(label: &[u8], attempt: Attempt, bytes: &[u8])
+    requires { ⌜ Reachable attempt ⌝ }
+{
+    event(label, attempt, Event::Datagram, bytes)
+}
+
+// A genuine packet other than Version Negotiation was processed (document 01's "heard").
+pub(crate) fn processed(label: &[u8], attempt: Attempt)
+    requires { ⌜ Reachable attempt ⌝ }
+{
+    event(label, attempt, Event::PacketProcessed, &[])
+}
+
+// The handshake ended, with Version Information.
+pub(crate) fn outcome(label: &[u8], attempt: Attempt, in_use: u32, bytes: &[u8])
+    requires { ⌜ Reachable attempt ⌝ }
+{
+    let given = Event::Outcome {
+        in_use,
+        information: Presence::Given,
+    };
+    event(label, attempt, given, bytes)
+}
+
+// The handshake ended, and Version Information is missing.
+pub(crate) fn missing(label: &[u8], attempt: Attempt, in_use: u32)
+    requires { ⌜ Reachable attempt ⌝ }
+{
+    let missing = Event::Outcome {
+        in_use,
+        information: Presence::Missing,
+    };
+    event(label, attempt, missing, &[])
+}
