@@ -58,7 +58,11 @@ fn proved() -> PathBuf {
         .status();
     match made {
         Ok(status) if status.success() => {}
-        Ok(status) => stop(&format!("`rt staticlib c_interface` failed: {}", status)),
+        Ok(status) => stop(&format!(
+            "`rt staticlib c_interface` failed: {}. If an earlier run was interrupted, remove the \
+             repository's target/ and try again",
+            status
+        )),
         Err(error) if error.kind() == ErrorKind::NotFound => stop(&format!(
             "`rt` of the Rattle toolchain is not on the PATH. Put it there, or set {} to a \
              folder that holds {}",
