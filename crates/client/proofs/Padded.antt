@@ -4,20 +4,13 @@ use mathlib.Core.List.{List, [], _∷_, _++_}
 use mathlib.Core.Path.{_≡_, refl, sym, ap, _∙_}
 use native.Mathlib.Numerals.{add-one}
 use native.Mathlib.Omega.{arith}
-use lib.ListN.{length, take, drop, getD, set, replicate, length-append, length-drop, length-replicate}
+use lib.ListN.{length, take, drop, getD, set, replicate, length-append, length-replicate}
 use lib.Seq.{drop-cons, set-append-seam, append-snoc, take-suc, take-all, length-take-le}
 use Rattle.client.specs.Attempt.{padded}
 
 pub padded-none : (n : ℕ) → replicate n 0 ≡ padded n []
 unfolding padded
 padded-none n = refl
-
-pub length-padded : (n : ℕ) (xs : List ℕ) → length xs ≤ n → length (padded n xs) ≡ n
-unfolding padded
-length-padded n xs h =
-    let zeros : List ℕ = replicate n 0 in
-    let all : length zeros ≡ n = length-replicate n 0 in
-    rw (length-append xs (drop (length xs) zeros), length-drop (length xs) zeros, all) (omega arith)
 
 -- One entry more, at the place after the last
 pub push : (n : ℕ) (xs : List ℕ) (i x : ℕ) → length xs ≡ i → i < n → set (padded n xs) i x ≡ padded n (xs ++ (x ∷ []))

@@ -124,8 +124,8 @@ cases =
 -- P4 with refused events around: a datagram that is no Version Negotiation packet (61), one for another connection (63:
 -- its IDs are not swapped), one that lists the Original Version (64), a second packet after the act (62), and events
 -- after the end (62)
-night : List Handed
-night =
+mixed : List Handed
+mixed =
     record { event = Datagram; bytes = 0x40 ∷ [] } ∷
     record {
       event = Datagram;
@@ -158,13 +158,13 @@ P1-to-P12 : map computed cases ≡ map expected cases
 unfolding computed expected ourDestination ourSource start packet outcome missing answers attempt three four cases closeOf codeIn table choose preferred paired pairKeepsRule eachPairKeepsRule pairsKeepRule elem entriesKeepRule tableKeepsRule reserved usable entries listBytes isReadableNegotiation padded ownOf run members wordOf wordFor rowsFor mayBeAnswered startOf opened blank stepOf onDatagram onProcessed onOutcome same
 P1-to-P12 = refl
 
-night-answers : answers (startOf (start three [] 12) .attempt) night ≡ refusals
-unfolding night refusals computed expected ourDestination ourSource start packet outcome missing answers attempt three four cases closeOf codeIn table choose preferred paired pairKeepsRule eachPairKeepsRule pairsKeepRule elem entriesKeepRule tableKeepsRule reserved usable entries listBytes isReadableNegotiation padded ownOf run members wordOf wordFor rowsFor mayBeAnswered startOf opened blank stepOf onDatagram onProcessed onOutcome same
-night-answers = refl
+mixed-answers : answers (startOf (start three [] 12) .attempt) mixed ≡ refusals
+unfolding mixed refusals computed expected ourDestination ourSource start packet outcome missing answers attempt three four cases closeOf codeIn table choose preferred paired pairKeepsRule eachPairKeepsRule pairsKeepRule elem entriesKeepRule tableKeepsRule reserved usable entries listBytes isReadableNegotiation padded ownOf run members wordOf wordFor rowsFor mayBeAnswered startOf opened blank stepOf onDatagram onProcessed onOutcome same
+mixed-answers = refl
 
 -- The premises of demand 3 and of its corollary can be met
-witness : CompletedAgainst (13 ∷ 14 ∷ []) (start three [] 12) night 14
-unfolding night actedWith firstOutcome computed expected ourDestination ourSource start packet outcome missing answers attempt three four cases closeOf codeIn table choose preferred paired pairKeepsRule eachPairKeepsRule pairsKeepRule elem entriesKeepRule tableKeepsRule reserved usable entries listBytes isReadableNegotiation padded ownOf run members wordOf wordFor rowsFor mayBeAnswered startOf opened blank stepOf onDatagram onProcessed onOutcome same
+witness : CompletedAgainst (13 ∷ 14 ∷ []) (start three [] 12) mixed 14
+unfolding mixed actedWith firstOutcome computed expected ourDestination ourSource start packet outcome missing answers attempt three four cases closeOf codeIn table choose preferred paired pairKeepsRule eachPairKeepsRule pairsKeepRule elem entriesKeepRule tableKeepsRule reserved usable entries listBytes isReadableNegotiation padded ownOf run members wordOf wordFor rowsFor mayBeAnswered startOf opened blank stepOf onDatagram onProcessed onOutcome same
 witness =
     record {
       accepted = refl;

@@ -11,7 +11,6 @@ use denote.Enum.Enum.{Few, Plainss}
 use denote.Enum.Laws as EL
 use denote.Laws.{Is, Lawful, Makes, Tells, shows}
 use denote.Memory.{cellAt, mem}
-use denote.Plain.{UInt, uint-lawful, uint-makes, uint-tells}
 use denote.RattleType.{RattleType}
 use denote.Steps.{closes, opens, owned, peeks}
 use denote.Struct.Declared as struct
@@ -19,8 +18,7 @@ use denote.Struct.Laws as LL
 use denote.Struct.Steps.{spelt}
 use denote.Struct.Struct.{Plains}
 use ghost.Atoms.{Atoms}
-use mir.Syntax.{Width}
-use mir.Val.{Val, vint}
+use mir.Val.{Val}
 use prog.Wp.{Heap}
 use types.Kit.{Given, Goal, Item, Seq, Soaks, Step, ‵, _$_, drop, move, step}
 use types.SemTy.{Body}
@@ -51,17 +49,6 @@ enum-data T laws plain few =
       tells = EL.tells T laws;
       lawful = λ 𝓤 H A W. EL.lawful T laws 𝓤 H A W few;
       makes = λ 𝓤 H A W. EL.makes T plain 𝓤 H A;
-    }
-
--- A number without sign, by its width
-abbrev pub number-data : Width → PlainData
-number-data w =
-    record {
-      row = UInt w;
-      val = vint w;
-      tells = uint-tells w;
-      lawful = λ 𝓤 H A W. uint-lawful 𝓤 H A W w;
-      makes = λ 𝓤 H A W. uint-makes 𝓤 H A W w;
     }
 
 -- The machine value as a list, which is how a parameter has it, and that it is the value's

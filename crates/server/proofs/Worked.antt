@@ -1,4 +1,4 @@
--- Worked calls of document 01, "Calls from both sides of the line", and the order of the box's answers. Each is
+-- Worked calls of document 01, "Calls from both sides of the line", and the order of the server's answers. Each is
 -- computed from the definitions alone.
 use Prim.Native.Nat.{ℕ}
 use mathlib.Core.List.{List, [], _∷_}
@@ -13,7 +13,7 @@ use Rattle.information.specs.Information.{informationBytes}
 use Rattle.information.specs.declared.Presence.the-variants.{Missing, Given}
 use Rattle.server.specs.FirstFlight.{Act, Act.negotiate, Act.use-version, mayUse, firstAccepted, decide}
 
--- The box reads 3. It accepts a table, has pairs, and a first flight of version 3 comes with given information
+-- The server reads 3. It accepts a table, has pairs, and a first flight of version 3 comes with given information
 abbrev reads-3 : List ℕ → List (List ℕ) → List ℕ → Reply Act
 reads-3 accepted pairs information = decide (3 ∷ []) accepted pairs 3 Given information
 
@@ -23,21 +23,21 @@ client = informationBytes 3 (3 ∷ 4 ∷ [])
 
 -- "Box reads 3, accepts 4, 3; client Chosen 3, Available 3, 4: with pair 3 to 4 it answers 4, with pair 4 to 3 or
 -- none it answers 3. Accepting 4 alone with no pair: negotiate."
-pub record Boxes : Type 0 where
+pub record ServerCalls : Type 0 where
   pub paired-on : reads-3 (4 ∷ 3 ∷ []) ((3 ∷ 4 ∷ []) ∷ []) client ≡ answered (use-version 4)
   pub paired-back : reads-3 (4 ∷ 3 ∷ []) ((4 ∷ 3 ∷ []) ∷ []) client ≡ answered (use-version 3)
   pub not-paired : reads-3 (4 ∷ 3 ∷ []) [] client ≡ answered (use-version 3)
   pub four-alone : reads-3 (4 ∷ []) [] client ≡ answered negotiate
-  -- the order is the box's: the client's list turned round answers the same
+  -- the order is the server's: the client's list turned round answers the same
   pub own-order : reads-3 (4 ∷ 3 ∷ []) ((3 ∷ 4 ∷ []) ∷ []) (informationBytes 3 (4 ∷ 3 ∷ [])) ≡ answered (use-version 4)
   -- pairs are not chained: 3 to 5 and 5 to 4 make no pair 3 to 4
   pub not-chained : reads-3 (4 ∷ 3 ∷ []) ((3 ∷ 5 ∷ []) ∷ (5 ∷ 4 ∷ []) ∷ []) client ≡ answered (use-version 3)
   -- 4 is paired, but the client has it not
   pub not-available : reads-3 (4 ∷ 3 ∷ []) ((3 ∷ 4 ∷ []) ∷ []) (informationBytes 3 (3 ∷ [])) ≡ answered (use-version 3)
 
-pub boxes : Boxes
+pub server-calls : ServerCalls
 unfolding decide mayUse firstAccepted paired pairsKeepRule eachPairKeepsRule pairKeepsRule elem tableKeepsRule entriesKeepRule usable reserved entries listBytes
-boxes =
+server-calls =
     record {
       paired-on = refl;
       paired-back = refl;
