@@ -13,16 +13,16 @@ use Rattle.versions.specs.Limits.{maxTable}
 use Rattle.invariants.specs.Header.{listed}
 use Rattle.information.specs.declared.Presence.{Presence}
 use Rattle.information.specs.declared.Presence.the-variants.{Missing, Given}
-use Rattle.client.specs.Attempt.{tableOf, isOpen, put, ended}
-use Rattle.client.specs.Events.{Handed, run}
-use Rattle.client.specs.Limits.{maxID}
-use Rattle.client.specs.Start.{Input, Start, startOf, startRules, refusedStart, openedStart, opened, blank}
-use Rattle.client.specs.Step.{After, Effect.completes, Effect.notes, actOn, after, closed, unchanged, countsFit, datagramRules, missingRules, informationRules, onDatagram, onOutcome, onProcessed, stepOf}
-use Rattle.client.specs.declared.Attempt.{Attempt}
-use Rattle.client.specs.declared.End.{End}
-use Rattle.client.specs.declared.End.the-variants.{Open, Completed, Closed}
-use Rattle.client.specs.declared.Event.{Event}
-use Rattle.client.specs.declared.Event.the-variants.{Datagram, PacketProcessed, Outcome}
+use Rattle.attempt.specs.Attempt.{tableOf, isOpen, put, ended}
+use Rattle.attempt.specs.Events.{Handed, run}
+use Rattle.attempt.specs.Limits.{maxID}
+use Rattle.attempt.specs.Start.{Input, Start, startOf, startRules, refusedStart, openedStart, opened, blank}
+use Rattle.attempt.specs.Step.{After, Effect.completes, Effect.notes, actOn, after, closed, unchanged, countsFit, datagramRules, missingRules, informationRules, onDatagram, onOutcome, onProcessed, stepOf}
+use Rattle.attempt.specs.declared.Attempt.{Attempt}
+use Rattle.attempt.specs.declared.End.{End}
+use Rattle.attempt.specs.declared.End.the-variants.{Open, Completed, Closed}
+use Rattle.attempt.specs.declared.Event.{Event}
+use Rattle.attempt.specs.declared.Event.the-variants.{Datagram, PacketProcessed, Outcome}
 use Rattle.c_interface.specs.Numbers.{flag}
 use Rattle.c_interface.specs.Records.{Left, markFits, endOf, markOf, markValue, isRecord, attemptOf, recordOf, eventOf, eventOn, leftAfter, stepRecord, startRecord}
 use Rattle.c_interface.specs.declared.Record.{Record}

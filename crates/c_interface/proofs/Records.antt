@@ -8,13 +8,13 @@ use lib.Dec.{eqb, leb}
 use borrow.Author.Tests.{leb-true, ne-eqb}
 use Rattle.refusals.proofs.Rules.{both-true, lowest-applies}
 use Rattle.versions.specs.Limits.{maxTable}
-use Rattle.client.specs.Events.{run}
-use Rattle.client.specs.Limits.{maxID}
-use Rattle.client.specs.Start.{Input, Start, isAccepted, startRules, startOf, refusedStart, openedStart, blank}
-use Rattle.client.specs.Step.{countsFit, stepOf}
-use Rattle.client.specs.declared.Attempt.{Attempt}
-use Rattle.client.specs.declared.Event.{Event}
-use Rattle.client.proofs.Blank.{step-any, reachable-counts}
+use Rattle.attempt.specs.Events.{run}
+use Rattle.attempt.specs.Limits.{maxID}
+use Rattle.attempt.specs.Start.{Input, Start, isAccepted, startRules, startOf, refusedStart, openedStart, blank}
+use Rattle.attempt.specs.Step.{countsFit, stepOf}
+use Rattle.attempt.specs.declared.Attempt.{Attempt}
+use Rattle.attempt.specs.declared.Event.{Event}
+use Rattle.attempt.proofs.Blank.{step-any, reachable-counts}
 use Rattle.client.proofs.Steps.{counts-all}
 use Rattle.c_interface.specs.Records.{markFits, isRecord, attemptOf, eventOf, leftAfter, asFound, stepRecord}
 use Rattle.c_interface.specs.declared.Record.{Record}

@@ -7,14 +7,14 @@ use lib.Dec.{eqb, leb}
 use lib.ListN.{replicate}
 use Rattle.versions.specs.Limits.{maxTable}
 use Rattle.information.specs.declared.Presence.the-variants.{Missing, Given}
-use Rattle.client.specs.Limits.{maxID}
-use Rattle.client.specs.Start.{Input, startOf}
-use Rattle.client.specs.Step.{After, stepOf}
-use Rattle.client.specs.declared.Attempt.{Attempt}
-use Rattle.client.specs.declared.End.{End}
-use Rattle.client.specs.declared.End.the-variants.{Open, Completed, Closed}
-use Rattle.client.specs.declared.Event.{Event}
-use Rattle.client.specs.declared.Event.the-variants.{Datagram, PacketProcessed, Outcome}
+use Rattle.attempt.specs.Limits.{maxID}
+use Rattle.attempt.specs.Start.{Input, startOf}
+use Rattle.attempt.specs.Step.{After, stepOf}
+use Rattle.attempt.specs.declared.Attempt.{Attempt}
+use Rattle.attempt.specs.declared.End.{End}
+use Rattle.attempt.specs.declared.End.the-variants.{Open, Completed, Closed}
+use Rattle.attempt.specs.declared.Event.{Event}
+use Rattle.attempt.specs.declared.Event.the-variants.{Datagram, PacketProcessed, Outcome}
 use Rattle.c_interface.specs.Numbers.{flag, notValid, refusalOf}
 use Rattle.c_interface.specs.declared.Record.{Record}
 use Rattle.c_interface.specs.declared.RecordAndRefusal.{RecordAndRefusal}

@@ -9,7 +9,7 @@ pub mod attempts; // the attempt: start, events, own list
 pub mod choices; // tables, pairs and choices
 pub mod wire; // headers, packets, Version Information
 
-use client::MAX_ID;
+use attempt::MAX_ID;
 use refusals::Call;
 use refusals::Close;
 use refusals::Refusal;

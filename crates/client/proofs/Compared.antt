@@ -8,7 +8,7 @@ use lib.Dec.{eqb}
 use lib.ListN.{length, drop, getD, drop-of-length-le}
 use borrow.Author.Tests.{eq-eqb, ne-eqb}
 use Rattle.versions.proofs.Lists.{drop-next}
-use Rattle.client.specs.Step.{same}
+use Rattle.attempt.specs.Step.{same}
 
 and-false-right : (b c : Bool) → c ≡ false → (b && c) ≡ false
 and-false-right true c e = e

@@ -1,14 +1,4 @@
-pub mod Blank
 pub mod Compared
-pub mod Demand3
-pub mod Marks
 pub mod Negotiating
 pub mod Outcomes
-pub mod OwnLists
-pub mod Padded
-pub mod Phases
-pub mod Reaching
 pub mod Steps
-pub mod Told
-pub mod Walks
-pub mod Worked

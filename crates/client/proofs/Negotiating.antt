@@ -11,10 +11,10 @@ use Rattle.versions.specs.Table.{elem}
 use Rattle.versions.specs.declared.Span.{Span}
 use Rattle.versions.proofs.Lists.{part-rest}
 use Rattle.invariants.specs.Header.{isReadableNegotiation, destinationLength, sourceLength, sourceStart, restStart, destinationID, sourceID, restOf, listed}
-use Rattle.client.specs.Attempt.{tableOf, destinationOf, sourceOf, isOpen, put}
+use Rattle.attempt.specs.Attempt.{tableOf, destinationOf, sourceOf, isOpen, put}
 use Rattle.client.specs.Parts.{Parts}
-use Rattle.client.specs.Step.{unchanged, closed, after, Effect.acts, otherConnection, onDatagram}
-use Rattle.client.specs.declared.Attempt.{Attempt}
+use Rattle.attempt.specs.Step.{unchanged, closed, after, Effect.acts, otherConnection, onDatagram}
+use Rattle.attempt.specs.declared.Attempt.{Attempt}
 
 -- The parts
 

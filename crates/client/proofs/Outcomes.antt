@@ -13,10 +13,10 @@ use Rattle.information.specs.declared.Presence.{Presence}
 use Rattle.information.specs.declared.Presence.the-variants.{Given}
 use Rattle.information.specs.declared.Sender.the-variants.{Server}
 use Rattle.information.proofs.Readings.{Known, readRules, read-refused, known-available, known-clear}
-use Rattle.client.specs.Attempt.{isOpen}
-use Rattle.client.specs.Step.{After, unchanged, closed, outcomeRules, informationRules, onOutcome}
-use Rattle.client.specs.declared.Attempt.{Attempt}
-use Rattle.client.specs.declared.End.the-variants.{Open}
+use Rattle.attempt.specs.Attempt.{isOpen}
+use Rattle.attempt.specs.Step.{After, unchanged, closed, outcomeRules, informationRules, onOutcome}
+use Rattle.attempt.specs.declared.Attempt.{Attempt}
+use Rattle.attempt.specs.declared.End.the-variants.{Open}
 use Rattle.client.proofs.Steps.{completion, outcome}
 
 -- A server's information never breaks 36: the reader judges it by 31 to 35 alone

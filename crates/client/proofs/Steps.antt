@@ -12,16 +12,16 @@ use Rattle.refusals.specs.Rule.{Rule._when_, lowest}
 use Rattle.refusals.proofs.Rules.{both-true}
 use Rattle.versions.specs.Choice.{preferred}
 use Rattle.versions.specs.Limits.{maxTable}
-use Rattle.client.specs.Limits.{maxID, notARecord}
+use Rattle.attempt.specs.Limits.{maxID, notARecord}
 use Rattle.versions.specs.Table.{elem}
 use Rattle.versions.specs.Wire.{entries, versionBytes}
 use Rattle.versions.proofs.Entries.{length-entries}
 use Rattle.versions.proofs.Laws.{preferred-joined}
-use Rattle.client.specs.Attempt.{tableOf, ownOf, isOpen, put, ended}
-use Rattle.client.specs.Step.{After, unchanged, closed, after, Effect.notes, Effect.completes, picks, outcomeRules, missingRules, onProcessed, stepOf, stepOfAny, countsFit}
-use Rattle.client.specs.declared.Attempt.{Attempt}
-use Rattle.client.specs.declared.Event.{Event}
-use Rattle.client.specs.declared.End.the-variants.{Open, Completed}
+use Rattle.attempt.specs.Attempt.{tableOf, ownOf, isOpen, put, ended}
+use Rattle.attempt.specs.Step.{After, unchanged, closed, after, Effect.notes, Effect.completes, picks, outcomeRules, missingRules, onProcessed, stepOf, stepOfAny, countsFit}
+use Rattle.attempt.specs.declared.Attempt.{Attempt}
+use Rattle.attempt.specs.declared.Event.{Event}
+use Rattle.attempt.specs.declared.End.the-variants.{Open, Completed}
 
 -- The counts
 

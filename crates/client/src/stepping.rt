@@ -9,20 +9,19 @@ ghost use Rattle.versions.specs.Choice.{preferred};
 ghost use Rattle.versions.specs.Limits.{maxTable};
 ghost use Rattle.versions.specs.Wire.{entries, entryReply};
 ghost use Rattle.information.specs.declared.Presence.the-variants.{Given};
-ghost use Rattle.client.specs.Attempt.{put, ended, isOpen, destinationOf, sourceOf};
-ghost use Rattle.client.specs.Events.{Reachable};
+ghost use Rattle.attempt.specs.Attempt.{put, ended, isOpen, destinationOf, sourceOf};
+ghost use Rattle.attempt.specs.Events.{Reachable};
 ghost use Rattle.client.specs.Parts.{Parts};
-ghost use Rattle.client.specs.Step.{shown, unchanged, closed, after, Effect.acts, Effect.notes, Effect.completes, same, picks, missingRules, outcomeRules, informationRules, otherConnection, onDatagram, onOutcome, onProcessed, stepOf, stepOfAny, countsFit};
-ghost use Rattle.client.specs.declared.End.the-variants.{Completed};
-use crate::Answer;
-use crate::Attempt;
-use crate::End;
-use crate::Event;
-use crate::MAX_ID;
-use crate::NOT_A_RECORD;
-use crate::Stepped;
-use crate::own::is_member;
-use crate::own::word_of;
+ghost use Rattle.attempt.specs.Step.{shown, unchanged, closed, after, Effect.acts, Effect.notes, Effect.completes, same, picks, missingRules, outcomeRules, informationRules, otherConnection, onDatagram, onOutcome, onProcessed, stepOf, stepOfAny, countsFit};
+ghost use Rattle.attempt.specs.declared.End.the-variants.{Completed};
+use attempt::Answer;
+use attempt::Attempt;
+use attempt::End;
+use attempt::Event;
+use attempt::MAX_ID;
+use attempt::NOT_A_RECORD;
+use attempt::Stepped;
+use attempt::own::is_own;
 use information::Information;
 use information::Presence;
 use information::Sender;
@@ -184,11 +183,7 @@ fn judge_outcome(attempt: Attempt, in_use: u32, chosen: u32, available: &[u8]) -
     requires { ⌜ countsFit attempt ≡ true ⌝ }
     ensures { λ r. ⌜ shown r ≡ lowest (closed attempt) (outcomeRules attempt «in_use» chosen (entries (now (available .entry)))) (after (ended attempt (Completed «in_use»)) (completes «in_use»)) ⌝ }
 {
-    let table = attempt.table;
-    let rows = attempt.rows;
-    let count = attempt.table_len;
-    let word = word_of(table, count, rows, attempt.attempted);
-    if !is_member(table, count, word, chosen) {
+    if !is_own(attempt, chosen) {
         return close(attempt, Refusal::CHOSEN_NOT_OURS);
     }
     if chosen != in_use {
@@ -200,6 +195,8 @@ fn judge_outcome(attempt: Attempt, in_use: u32, chosen: u32, available: &[u8]) -
     if available.len() < 4 {
         return close(attempt, Refusal::AVAILABLE_EMPTY);
     }
+    let table = attempt.table;
+    let count = attempt.table_len;
     if !chooses_again(&table[..count], available, in_use, attempt.attempted) {
         return close(attempt, Refusal::DOWNGRADED);
     }

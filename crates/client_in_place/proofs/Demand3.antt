@@ -5,12 +5,12 @@ use mathlib.Core.List.{List, [], _∷_}
 use mathlib.Core.Logic.{_↔_}
 use mathlib.Core.Option.{Option.some}
 use mathlib.Core.Path.{_≡_, refl, sym, subst}
-use Rattle.client.specs.Attempt.{isCompleted}
-use Rattle.client.specs.Demand.{Good, Handshake, actedWith, firstOutcome}
-use Rattle.client.specs.Events.{Handed, run}
-use Rattle.client.specs.Start.{Input, isAccepted, startOf}
-use Rattle.client.specs.declared.Attempt.{Attempt}
-use Rattle.client.proofs.Demand3.{demand-3}
+use Rattle.attempt.specs.Attempt.{isCompleted}
+use Rattle.attempt.specs.Demand.{Good, Handshake, actedWith, firstOutcome}
+use Rattle.attempt.specs.Events.{Handed, run}
+use Rattle.attempt.specs.Start.{Input, isAccepted, startOf}
+use Rattle.attempt.specs.declared.Attempt.{Attempt}
+use Rattle.attempt.proofs.Demand3.{demand-3}
 use Rattle.client_in_place.specs.Events.{leaves, leftAfter}
 
 pub in-place-run : (a : Attempt) (events : List Handed) → leftAfter a events ≡ run a events

@@ -2,10 +2,10 @@
 -- the one that the event before it handed back or left; nobody else writes it in between."
 use Prim.Native.Nat.{ℕ}
 use mathlib.Core.List.{List, [], _∷_}
-use Rattle.client.specs.Events.{Handed}
-use Rattle.client.specs.Step.{stepOf}
-use Rattle.client.specs.declared.Attempt.{Attempt}
-use Rattle.client.specs.declared.Event.{Event}
+use Rattle.attempt.specs.Events.{Handed}
+use Rattle.attempt.specs.Step.{stepOf}
+use Rattle.attempt.specs.declared.Attempt.{Attempt}
+use Rattle.attempt.specs.declared.Event.{Event}
 
 -- The record that one event leaves: the equation of `handle`'s contract
 abbrev pub leaves : Attempt → Event → List ℕ → Attempt

@@ -1,10 +1,10 @@
 // The client's events on a record that the host lends: the step by value, and its record stored back.
 ghost use mathlib.Core.Path.{_≡_};
-ghost use Rattle.client.specs.Events.{Reachable};
-ghost use Rattle.client.specs.Step.{answerReply, stepOf};
-use client::Answer;
-use client::Attempt;
-use client::Event;
+ghost use Rattle.attempt.specs.Events.{Reachable};
+ghost use Rattle.attempt.specs.Step.{answerReply, stepOf};
+use attempt::Answer;
+use attempt::Attempt;
+use attempt::Event;
 use client::stepping::step;
 
 // One event on a lent record, which a start handed back and events alone changed since. `bytes` is the datagram, or

@@ -5,7 +5,7 @@ use mathlib.Core.Path.{_≡_, refl}
 use Rattle.versions.specs.Pairs.{pairKeepsRule, eachPairKeepsRule, pairsKeepRule}
 use Rattle.versions.specs.Table.{elem, entriesKeepRule, tableKeepsRule}
 use Rattle.versions.specs.Version.{reserved, usable}
-use Rattle.client.specs.Start.{inputOf, isAccepted}
+use Rattle.attempt.specs.Start.{inputOf, isAccepted}
 
 pub plain : isAccepted (inputOf (14 ∷ 12 ∷ 10 ∷ []) [] 12 (0xaa ∷ 0xbb ∷ []) (0xcc ∷ [])) ≡ true
 unfolding eachPairKeepsRule pairsKeepRule elem entriesKeepRule tableKeepsRule reserved usable

@@ -2,11 +2,11 @@
 ghost use mathlib.Core.Bool.{true};
 ghost use mathlib.Core.List.{[], _∷_};
 ghost use mathlib.Core.Path.{_≡_};
-ghost use Rattle.client.specs.Events.{Reachable};
-ghost use Rattle.client.specs.Start.{inputOf, isAccepted};
-use client::Attempt;
-use client::Event;
-use client::starting::start;
+ghost use Rattle.attempt.specs.Events.{Reachable};
+ghost use Rattle.attempt.specs.Start.{inputOf, isAccepted};
+use attempt::Attempt;
+use attempt::Event;
+use client_start::start;
 use client::stepping::step;
 use information::Presence;
 

@@ -1,17 +1,17 @@
 // One start, own list or event of a client, and one line with its answer.
-ghost use Rattle.client.specs.Events.{Reachable};
+ghost use Rattle.attempt.specs.Events.{Reachable};
 use crate::say::number;
 use crate::say::refused;
 use crate::say::text;
 use crate::say::version;
 use crate::say::versions;
-use client::Answer;
-use client::Attempt;
-use client::End;
-use client::Event;
-use client::StartAnswer;
-use client::own::own_list;
-use client::starting::start;
+use attempt::Answer;
+use attempt::Attempt;
+use attempt::End;
+use attempt::Event;
+use attempt::StartAnswer;
+use attempt::own::own_list;
+use client_start::start;
 use client::stepping::step;
 use information::Presence;
 use refusals::Call;

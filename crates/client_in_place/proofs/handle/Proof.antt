@@ -42,19 +42,19 @@ use types.Part.{look-in, sub, whole}
 use types.Run.{enter, alloc0, alloc1, params1, pass0, pass1, returns, forget, free0, free1}
 use types.Run.{assigns, of-opd, load, and-then, no-more, land, from, hop, fld, stop, look, look-raw, init, store-raw}
 use types.SemTy.{Body}
-use Rattle.client.specs.Events.{Reachable}
-use Rattle.client.specs.Step.{After, shown, stepOf}
-use Rattle.client.specs.declared.Attempt.{Attempt}
-use Rattle.client.specs.declared.Event.{Event}
-use Rattle.client.specs.declared.Stepped.{Stepped}
-use Rattle.client.proofs.Answer as answer
-use Rattle.client.proofs.Answer.Laws as answer-laws
-use Rattle.client.proofs.Attempt as attempt
-use Rattle.client.proofs.Attempt.Laws as attempt-laws
-use Rattle.client.proofs.Event as event
-use Rattle.client.proofs.Event.Laws as event-laws
-use Rattle.client.proofs.Stepped as stepped
-use Rattle.client.proofs.Stepped.Laws as stepped-laws
+use Rattle.attempt.specs.Events.{Reachable}
+use Rattle.attempt.specs.Step.{After, shown, stepOf}
+use Rattle.attempt.specs.declared.Attempt.{Attempt}
+use Rattle.attempt.specs.declared.Event.{Event}
+use Rattle.attempt.specs.declared.Stepped.{Stepped}
+use Rattle.attempt.proofs.Answer as answer
+use Rattle.attempt.proofs.Answer.Laws as answer-laws
+use Rattle.attempt.proofs.Attempt as attempt
+use Rattle.attempt.proofs.Attempt.Laws as attempt-laws
+use Rattle.attempt.proofs.Event as event
+use Rattle.attempt.proofs.Event.Laws as event-laws
+use Rattle.attempt.proofs.Stepped as stepped
+use Rattle.attempt.proofs.Stepped.Laws as stepped-laws
 use Rattle.client.proofs.stepping.step as step
 use Rattle.client.proofs.stepping.step.Met as step-thm
 use Rattle.client.proofs.stepping.step.Symbol as step-def

@@ -1,7 +1,7 @@
 -- `apply` meets its contract: the record is one, so the step for any record value is the step.
 use mathlib.Core.Path.{_≡_, sym, ap, _∙_}
 use borrow.Author.Needs.{needs}
-use Rattle.client.specs.Step.{After, shown, stepOf}
+use Rattle.attempt.specs.Step.{After, shown, stepOf}
 use Rattle.client.proofs.Steps.{any-accepted}
 use Rattle.c_interface.specs.Records.{attemptOf, leftAfter}
 use Rattle.c_interface.proofs.Records.{record-counts, step-counts}

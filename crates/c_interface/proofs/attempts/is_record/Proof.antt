@@ -6,7 +6,7 @@ use lib.Dec.{eqb}
 use borrow.Author.Needs.{needs}
 use borrow.Author.Tests.{lt-leb, le-leb, not-true, not-false}
 use Rattle.versions.specs.Limits.{maxTable}
-use Rattle.client.specs.Limits.{maxID}
+use Rattle.attempt.specs.Limits.{maxID}
 use Rattle.c_interface.specs.Records.{isRecord, markFits}
 use Rattle.c_interface.specs.declared.Record.{Record}
 use Rattle.c_interface.proofs.attempts.is_record.Statement.{statement}

@@ -3,8 +3,8 @@ use mathlib.Core.Bool.{true, false}
 use mathlib.Core.Path.{_≡_, refl, sym, ap, _∙_}
 use borrow.Author.Tests.{not-true, not-false}
 use borrow.Author.Needs.{needs}
-use Rattle.client.specs.Attempt.{ownListOf}
-use Rattle.client.specs.declared.OwnList.{OwnList}
+use Rattle.attempt.specs.Attempt.{ownListOf}
+use Rattle.attempt.specs.declared.OwnList.{OwnList}
 use Rattle.c_interface.specs.Records.{isRecord, attemptOf}
 use Rattle.c_interface.proofs.attempts.qv_own_list.Statement.{statement}
 use Rattle.c_interface.proofs.attempts.qv_own_list.Tie as tie

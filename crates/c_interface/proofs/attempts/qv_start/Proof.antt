@@ -1,7 +1,7 @@
 -- `qv_start` meets its contract: what `start` hands back, as a record.
 use mathlib.Core.Path.{ap}
 use borrow.Author.Needs.{needs}
-use Rattle.client.specs.Start.{Input, Start, inputOf}
+use Rattle.attempt.specs.Start.{Input, Start, inputOf}
 use Rattle.c_interface.specs.Numbers.{refusalOf}
 use Rattle.c_interface.specs.Records.{Left, recordOf}
 use Rattle.c_interface.proofs.Records.{start-counts}

@@ -5,7 +5,7 @@ use mathlib.Core.Path.{sym, ap, _∙_}
 use Prim.Native.Nat.{ℕ}
 use denote.Ref.{now}
 use Rattle.versions.specs.Wire.{entries, entryReply}
-use Rattle.client.specs.Step.{picks}
+use Rattle.attempt.specs.Step.{picks}
 use Rattle.client.proofs.Steps.{added-some, added-none}
 use Rattle.client.proofs.stepping.chooses_again.Statement.{statement}
 use Rattle.client.proofs.stepping.chooses_again.Tie as tie

@@ -2,8 +2,8 @@
 use borrow.Author.Needs.{needs}
 use mathlib.Core.Path.{sym, ap, _∙_}
 use denote.Ref.{now}
-use Rattle.client.specs.Step.{stepOf}
-use Rattle.client.specs.declared.Event.{Event}
+use Rattle.attempt.specs.Step.{stepOf}
+use Rattle.attempt.specs.declared.Event.{Event}
 use Rattle.client.proofs.stepping.handle_event.Statement.{statement}
 use Rattle.client.proofs.stepping.handle_event.Tie as tie
 

@@ -5,13 +5,13 @@ use mathlib.Core.Bool.{true, false, not}
 use mathlib.Core.List.{List}
 use Prim.Native.Nat.{ℕ}
 use Rattle.invariants.specs.Header.{destinationID}
-use Rattle.client.specs.Attempt.{destinationOf, sourceOf}
-use Rattle.client.specs.Step.{same}
+use Rattle.attempt.specs.Attempt.{destinationOf, sourceOf}
+use Rattle.attempt.specs.Step.{same}
 use native.Mathlib.Omega.{arith}
 use borrow.Author.Tests.{not-true, not-false}
 use denote.Ref.{now}
 use lib.ListN.{length, length-take}
-use Rattle.client.specs.Limits.{maxID}
+use Rattle.attempt.specs.Limits.{maxID}
 use Rattle.client.proofs.Negotiating.{destination-from, destination-to, destination-part, source-from, source-to, source-part}
 use Rattle.client.proofs.Steps.{counts-destination, counts-source}
 use Rattle.client.proofs.stepping.is_other_connection.Statement.{statement}

@@ -12,8 +12,8 @@ use Rattle.versions.specs.Limits.{maxTable}
 use Rattle.versions.specs.Table.{elem}
 use Rattle.versions.specs.Wire.{entries, entryReply}
 use Rattle.invariants.specs.Header.{listed}
-use Rattle.client.specs.Attempt.{tableOf, destinationOf, sourceOf, isOpen}
-use Rattle.client.specs.Step.{otherConnection}
+use Rattle.attempt.specs.Attempt.{tableOf, destinationOf, sourceOf, isOpen}
+use Rattle.attempt.specs.Step.{otherConnection}
 use Rattle.client.proofs.Negotiating.{list-from, list-part, too-late, not-ours, lists-original, acts-on, nothing-left}
 use Rattle.client.proofs.Steps.{counts-table}
 use Rattle.client.proofs.stepping.on_negotiation.Statement.{statement}

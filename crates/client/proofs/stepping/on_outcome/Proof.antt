@@ -4,8 +4,8 @@ use mathlib.Core.Path.{sym, ap, _∙_}
 use denote.Ref.{now}
 use Rattle.information.specs.declared.Presence.{Presence}
 use Rattle.information.specs.declared.Presence.the-variants.{Missing, Given}
-use Rattle.client.specs.Attempt.{isOpen}
-use Rattle.client.specs.Step.{onOutcome}
+use Rattle.attempt.specs.Attempt.{isOpen}
+use Rattle.attempt.specs.Step.{onOutcome}
 use Rattle.client.proofs.Outcomes.{outcome-open, outcome-ended}
 use Rattle.client.proofs.stepping.on_outcome.Statement.{statement}
 use Rattle.client.proofs.stepping.on_outcome.Tie as tie

@@ -1,7 +1,7 @@
 -- `on_processed` meets its contract: by the end mark.
 use borrow.Author.Needs.{needs}
 use mathlib.Core.Path.{ap, _∙_}
-use Rattle.client.specs.Attempt.{isOpen}
+use Rattle.attempt.specs.Attempt.{isOpen}
 use Rattle.client.proofs.Steps.{processed-open, processed-ended}
 use Rattle.client.proofs.stepping.on_processed.Statement.{statement}
 use Rattle.client.proofs.stepping.on_processed.Tie as tie

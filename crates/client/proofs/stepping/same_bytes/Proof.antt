@@ -3,7 +3,7 @@ use Prim.Native.Nat.{_≤_, _-_}
 use mathlib.Core.Path.{_≡_, refl, sym, _∙_}
 use native.Mathlib.Omega.{arith}
 use lib.ListN.{length, drop}
-use Rattle.client.specs.Step.{same}
+use Rattle.attempt.specs.Step.{same}
 use Rattle.client.proofs.Compared.{same-lengths, same-differ, same-next, same-end}
 use Rattle.client.proofs.stepping.same_bytes.Statement.{statement}
 use Rattle.client.proofs.stepping.same_bytes.Tie as tie

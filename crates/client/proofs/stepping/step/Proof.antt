@@ -1,6 +1,6 @@
 -- `step` meets its contract: a reachable record's counts fit, and a step keeps it reachable.
-use Rattle.client.proofs.Blank.{reachable-counts}
-use Rattle.client.proofs.Reaching.{reachable-shown}
+use Rattle.attempt.proofs.Blank.{reachable-counts}
+use Rattle.attempt.proofs.Reaching.{reachable-shown}
 use Rattle.client.proofs.Steps.{counts-all}
 use Rattle.client.proofs.stepping.step.Statement.{statement}
 use Rattle.client.proofs.stepping.step.Tie as tie

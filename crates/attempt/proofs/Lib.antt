@@ -1,0 +1,9 @@
+pub mod Blank
+pub mod Demand3
+pub mod OwnLists
+pub mod Padded
+pub mod Phases
+pub mod Reaching
+pub mod Told
+pub mod Walks
+pub mod Worked

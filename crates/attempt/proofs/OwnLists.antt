@@ -1,0 +1,40 @@
+-- The own list that the record keeps as words is document 01's.
+use Prim.Native.Nat.{ℕ, _+_, _*_, _/_, _%_}
+use mathlib.Core.Bool.{Bool, true, false, cond, _||_, false≢true}
+use mathlib.Core.List.{List, [], _∷_, _++_}
+use mathlib.Core.Path.{_≡_, refl, ap}
+use native.Mathlib.Omega.{arith}
+use lib.Dec.{eqb}
+use borrow.Author.Tests.{eqb-true}
+use Rattle.versions.specs.Table.{elem}
+use Rattle.attempt.specs.OwnList.{mayBeAnswered, bit, ownList, wordFor, rowsFor, members, wordOf}
+
+-- the lowest bit of a word, and the rest of it
+lowest-bit : (b : Bool) (w : ℕ) → eqb ((bit b + 2 * w) % 2) 1 ≡ b
+lowest-bit true w = let e : (1 + 2 * w) % 2 ≡ 1 = omega arith in rw e
+lowest-bit false w = let e : (0 + 2 * w) % 2 ≡ 0 = omega arith in rw e
+
+pub rest-bits : (b : Bool) (w : ℕ) → (bit b + 2 * w) / 2 ≡ w
+rest-bits true w = omega arith
+rest-bits false w = omega arith
+
+pub members-word : (table : List ℕ) (pairs : List (List ℕ)) (v : ℕ) →
+    members (wordFor table pairs v) table ≡ ownList table pairs v
+unfolding members wordFor ownList
+members-word [] pairs v = refl
+members-word (t ∷ table) pairs v =
+    let b = mayBeAnswered pairs v t in
+    rw (lowest-bit b (wordFor table pairs v), rest-bits b (wordFor table pairs v), members-word table pairs v)
+
+-- the word of a table entry is the one that was made for it
+pub word-of-row : (vs table : List ℕ) (pairs : List (List ℕ)) (rest : List ℕ) (v : ℕ) → elem v vs ≡ true →
+    wordOf vs (rowsFor vs table pairs ++ rest) v ≡ wordFor table pairs v
+unfolding wordOf rowsFor elem
+word-of-row [] table pairs rest v h = absurd (false≢true h)
+word-of-row (t ∷ vs) table pairs rest v h = go (eqb t v) refl h (word-of-row vs table pairs rest v)
+  where
+    go : (b : Bool) → eqb t v ≡ b → (b || elem v vs) ≡ true →
+        (elem v vs ≡ true → wordOf vs (rowsFor vs table pairs ++ rest) v ≡ wordFor table pairs v) →
+        cond b (wordFor table pairs t) (wordOf vs (rowsFor vs table pairs ++ rest) v) ≡ wordFor table pairs v
+    go true e h ih = ap (wordFor table pairs) (eqb-true t v e)
+    go false e h ih = ih h

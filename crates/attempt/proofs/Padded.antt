@@ -1,0 +1,35 @@
+-- A list in an array of n places, entry by entry: a walk that stores each next entry fills it.
+use Prim.Native.Nat.{ℕ, suc, _+_, _≤_, _<_}
+use mathlib.Core.List.{List, [], _∷_, _++_}
+use mathlib.Core.Path.{_≡_, refl, sym, ap, _∙_}
+use native.Mathlib.Numerals.{add-one}
+use native.Mathlib.Omega.{arith}
+use lib.ListN.{length, take, drop, getD, set, replicate, length-append, length-replicate}
+use lib.Seq.{drop-cons, set-append-seam, append-snoc, take-suc, take-all, length-take-le}
+use Rattle.attempt.specs.Attempt.{padded}
+
+pub padded-none : (n : ℕ) → replicate n 0 ≡ padded n []
+unfolding padded
+padded-none n = refl
+
+-- One entry more, at the place after the last
+pub push : (n : ℕ) (xs : List ℕ) (i x : ℕ) → length xs ≡ i → i < n → set (padded n xs) i x ≡ padded n (xs ++ (x ∷ []))
+unfolding padded
+push n xs i x e h =
+    let zeros : List ℕ = replicate n 0 in
+    let all : length zeros ≡ n = length-replicate n 0 in
+    let room : length xs < length zeros = omega arith in
+    let more : length (xs ++ (x ∷ [])) ≡ suc (length xs) = length-append xs (x ∷ []) ∙ add-one (length xs) in
+    rw (← e, drop-cons zeros (length xs) 0 room, more)
+    (set-append-seam xs (getD zeros (length xs) 0) (drop (suc (length xs)) zeros) x ∙
+    sym (append-snoc xs x (drop (suc (length xs)) zeros)))
+
+-- The walk over a list: the next entry, and the end
+pub push-next : (n : ℕ) (xs : List ℕ) (i : ℕ) → length xs ≤ n → i < length xs →
+    set (padded n (take i xs)) i (getD xs i 0) ≡ padded n (take (i + 1) xs)
+push-next n xs i room h =
+    push n (take i xs) i (getD xs i 0) (length-take-le i xs (omega arith)) (omega arith) ∙
+    ap (padded n) (sym (take-suc xs i 0 h) ∙ rw (add-one i))
+
+pub padded-all : (n : ℕ) (xs : List ℕ) (i : ℕ) → length xs ≤ i → padded n (take i xs) ≡ padded n xs
+padded-all n xs i h = ap (padded n) (take-all i xs h)

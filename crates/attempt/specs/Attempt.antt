@@ -1,0 +1,73 @@
+-- The record of an attempt: how it is read, and how an event changes it.
+use Prim.Native.Nat.{ℕ}
+use mathlib.Core.Bool.{Bool, true, false}
+use mathlib.Core.List.{List, _++_}
+use lib.ListN.{length, take, drop, replicate}
+use Rattle.versions.specs.Limits.{maxTable}
+use Rattle.attempt.specs.OwnList.{members, wordOf}
+use Rattle.attempt.specs.declared.Attempt.{Attempt}
+use Rattle.attempt.specs.declared.End.{End}
+use Rattle.attempt.specs.declared.End.the-variants.{Open, Completed, Closed}
+use Rattle.attempt.specs.declared.OwnList.{OwnList}
+
+-- A list in an array of n places: "places past a count are 0"
+unfoldable pub padded : ℕ → List ℕ → List ℕ
+padded n xs = xs ++ drop (length xs) (replicate n 0)
+
+abbrev pub tableOf : Attempt → List ℕ
+tableOf a = take (a .«table_len») (a .table)
+
+abbrev pub destinationOf : Attempt → List ℕ
+destinationOf a = take (a .«destination_len») (a .destination)
+
+abbrev pub sourceOf : Attempt → List ℕ
+sourceOf a = take (a .«source_len») (a .source)
+
+-- The own list for a version, read from the record
+abbrev pub ownFor : Attempt → ℕ → List ℕ
+ownFor a v = members (wordOf (tableOf a) (a .rows) v) (tableOf a)
+
+-- The own list of the attempt, which is that of the attempted version
+unfoldable pub ownOf : Attempt → List ℕ
+ownOf a = ownFor a (a .attempted)
+
+-- A list as an array and a count
+abbrev pub listInPlaces : List ℕ → OwnList
+listInPlaces vs = record { versions = padded maxTable vs; count = length vs }
+
+-- The own list as an array and a count
+abbrev pub ownListOf : Attempt → OwnList
+ownListOf a = listInPlaces (ownOf a)
+
+abbrev pub isOpen : End → Bool
+isOpen Open = true
+isOpen (Completed v) = false
+isOpen (Closed n) = false
+
+-- "the end mark of the record .., which tells completed from closed"
+abbrev pub isCompleted : End → Bool
+isCompleted Open = false
+isCompleted (Completed v) = true
+isCompleted (Closed n) = false
+
+-- The record with the fields that an event may change; every other field stays
+abbrev pub put : Attempt → ℕ → Bool → Bool → End → Attempt
+put a attempted′ acted′ heard′ end′ =
+    record {
+      table = a .table;
+      «table_len» = a .«table_len»;
+      rows = a .rows;
+      destination = a .destination;
+      «destination_len» = a .«destination_len»;
+      source = a .source;
+      «source_len» = a .«source_len»;
+      original = a .original;
+      attempted = attempted′;
+      acted = acted′;
+      heard = heard′;
+      end = end′;
+    }
+
+-- "An ending changes the end mark alone."
+abbrev pub ended : Attempt → End → Attempt
+ended a e = put a (a .attempted) (a .acted) (a .heard) e

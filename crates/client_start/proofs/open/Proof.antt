@@ -1,0 +1,37 @@
+-- `open`: each array of the record is its list in places.
+use borrow.Author.Needs.{needs}
+use Rattle.attempt.specs.Start.{opened}
+use Rattle.client_start.proofs.open.Statement.{statement}
+use Rattle.client_start.proofs.open.Tie as tie
+
+padded-table-requires : tie.Need-padded-table-requires
+padded-table-requires c κs = search needs
+
+rows-for-requires : tie.Need-rows-for-requires
+rows-for-requires c κs = search needs
+
+padded-id-requires : tie.Need-padded-id-requires
+padded-id-requires c κs = search needs
+
+padded-id-requires-2 : tie.Need-padded-id-requires-2
+padded-id-requires-2 c κs = search needs
+
+returns : tie.Need-returns
+unfolding opened
+returns c =
+    rw (
+      c .before .before .before .padded-table .ensures,
+      c .before .before .rows-for .ensures,
+      c .before .padded-id .ensures,
+      c .padded-id2 .ensures,
+    )
+
+pub open-spec : {M : Type 1} → statement M
+open-spec =
+    tie.close
+    (tie.spec
+    padded-table-requires
+    rows-for-requires
+    padded-id-requires
+    padded-id-requires-2
+    returns)
