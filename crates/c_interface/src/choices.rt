@@ -13,12 +13,12 @@ use server::Decision;
 use server::choose_after_first_flight;
 use versions::Choice;
 use versions::Entry;
-use versions::choosing::choose_from;
-use versions::choosing::choose_from_bytes;
+use choosing::choose_from;
+use choosing::choose_from_bytes;
 use versions::pairs::are_pairs;
 use versions::table::is_reserved;
 use versions::table::is_table;
-use versions::wire::entry_at;
+use lists::entry_at;
 
 // 1 if the version is reserved (0x?a?a?a?a), else 0.
 #[no_mangle]

@@ -32,9 +32,9 @@ use refusals::Refusal;
 use versions::Entry;
 use versions::MAX_TABLE;
 use versions::Span;
-use versions::choosing::prefer;
-use versions::choosing::prefer_in_bytes;
-use versions::wire::contains_in_bytes;
+use choosing::prefer;
+use choosing::prefer_in_bytes;
+use lists::contains_in_bytes;
 
 // The record with the fields that an event may change; every other field stays.
 fn changed(attempt: Attempt, attempted: u32, acted: bool, heard: bool, end: End) -> Attempt

@@ -12,9 +12,9 @@ use refusals::Refusal;
 use refusals::Written;
 use versions::Span;
 use versions::table::contains;
-use versions::wire::big_endian;
-use versions::wire::contains_in_bytes;
-use versions::wire::put_list;
+use lists::big_endian;
+use lists::contains_in_bytes;
+use lists::put_list;
 
 // The most bytes of Version Information: the Chosen Version and MAX_AVAILABLE Available Versions.
 pub const MAX_INFORMATION: usize = 1024;

@@ -3,7 +3,7 @@ ghost use mathlib.Core.Path.{_≡_};
 ghost use Prim.Native.Nat.{_<_};
 ghost use lib.ListN.{getD};
 ghost use Rattle.invariants.specs.Header.{versionOf, destinationLength, sourceLength, restStart};
-use versions::wire::big_endian;
+use lists::big_endian;
 
 // The byte at a place, 0 past the end.
 pub(crate) fn byte_at(datagram: &[u8], at: usize) -> u8

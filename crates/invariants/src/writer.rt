@@ -21,7 +21,7 @@ use refusals::Refusal;
 use refusals::Written;
 use versions::table::contains;
 use versions::table::is_table;
-use versions::wire::put_list;
+use lists::put_list;
 
 // Writes the packet at the buffer's front and answers its byte count, at most 581: first byte 128 plus
 // the unused bits, version 0, the received source connection ID as destination, the received destination

@@ -15,7 +15,7 @@ use versions::pairs::are_pairs;
 use versions::pairs::is_paired;
 use versions::table::contains;
 use versions::table::is_table;
-use versions::wire::contains_in_bytes;
+use lists::contains_in_bytes;
 
 // What the server does: it refuses, it sends a Version Negotiation packet, or it uses a version.
 pub enum Decision {

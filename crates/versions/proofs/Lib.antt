@@ -1,4 +1,3 @@
-pub mod Chosen
 pub mod Entries
 pub mod Laws
 pub mod Lists

@@ -34,7 +34,9 @@ pub record AtTheLimit : Type 0 where
   pub full : choose table (replicate 16382 13) ≡ refuse Reading 42
   -- one entry more is refused, whatever it holds
   pub over : choose table (replicate 16383 14) ≡ refuse Reading 40
+  -- and before the table is judged
+  pub over-first : choose [] (replicate 16383 14) ≡ refuse Reading 40
 
 pub at-the-limit : AtTheLimit
 unfolding choose preferred elem tableKeepsRule entriesKeepRule usable reserved
-at-the-limit = record { last = refl; full = refl; over = refl }
+at-the-limit = record { last = refl; full = refl; over = refl; over-first = refl }

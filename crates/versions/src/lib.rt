@@ -1,9 +1,7 @@
-// Versions: the reserved numbers, tables of versions and of compatible pairs, the choice of a version
-// from a list, and lists of versions on the wire. Every function answers for every input.
-pub mod choosing; // the choice from a list
+// Versions: the reserved numbers, tables of versions and of compatible pairs. Every function answers for every
+// input. specs/ also has what the choice from a list and lists on the wire are, for the crates `choosing` and `lists`.
 pub mod pairs; // compatible pairs
 pub mod table; // reserved numbers, tables and lists
-pub mod wire; // big-endian versions and lists of them
 
 // The most entries that a table of versions has.
 pub const MAX_TABLE: usize = 16;

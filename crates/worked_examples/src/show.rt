@@ -19,7 +19,7 @@ use server::Decision;
 use server::choose_after_first_flight;
 use versions::Choice;
 use versions::Span;
-use versions::choosing::choose_from;
+use choosing::choose_from;
 
 fn long_form(number: u32, destination: Span, source: Span, rest: Span) {
     version(b"long form, version ", number);

@@ -1,0 +1,86 @@
+// Versions on the wire: big endian, four bytes each; a list is its entries one after the other.
+ghost use mathlib.Core.Path.{_≡_};
+ghost use Prim.Native.Nat.{_+_, _≤_, _*_};
+ghost use mathlib.Core.List.{_++_};
+ghost use lib.Dec.{leb};
+ghost use lib.ListN.{length, take, drop};
+ghost use Rattle.versions.specs.Table.{elem};
+ghost use Rattle.versions.specs.Wire.{number, numberAt, entries, entryAt, entryReply, bytesOf, versionBytes, afterPut};
+use versions::Entry;
+
+fn wide(byte: u8) -> u32
+    ensures { λ r. ⌜ r ≡ byte ⌝ }
+{
+    byte as u32
+}
+
+// Four bytes as a number.
+pub fn big_endian(a: u8, b: u8, c: u8, d: u8) -> u32
+    ensures { λ r. ⌜ r ≡ number a b c d ⌝ }
+{
+    wide(a) * 0x1000000 + (wide(b) * 0x10000 + (wide(c) * 0x100 + wide(d)))
+}
+
+// The number whose four bytes begin at a place.
+fn number_at(bytes: &[u8], at: usize) -> u32
+    requires { ⌜ at + versionBytes ≤ length (now bytes) ⌝ }
+    ensures { λ r. ⌜ r ≡ numberAt (now (bytes .entry)) at ⌝ }
+{
+    big_endian(bytes[at], bytes[at + 1], bytes[at + 2], bytes[at + 3])
+}
+
+// The entry at a place of a list on the wire, counted from 0. Entries are whole fours; 1 to 3 bytes left
+// over are no entry.
+pub fn entry_at(bytes: &[u8], place: usize) -> Entry
+    ensures { λ r. ⌜ entryReply r ≡ entryAt (entries (now (bytes .entry))) place ⌝ }
+{
+    if place < bytes.len() / 4 {
+        Entry::Version(number_at(bytes, place * 4))
+    } else {
+        Entry::Nothing
+    }
+}
+
+// Whether the version is an entry of a list on the wire.
+pub fn contains_in_bytes(bytes: &[u8], version: u32) -> bool
+    ensures { λ r. ⌜ r ≡ elem version (entries (now (bytes .entry))) ⌝ }
+{
+    let count = bytes.len() / 4;
+    let mut i = 0;
+    while i < count {
+        if number_at(bytes, i * 4) == version {
+            return true;
+        }
+        i += 1;
+    }
+    false
+}
+
+// Puts one version at a place of the buffer.
+fn put_at(buffer: &mut [u8], at: usize, version: u32)
+    requires { ⌜ at + versionBytes ≤ length (now buffer) ⌝ }
+    ensures { λ _. ⌜ now (buffer .exit) ≡ take at (now (buffer .entry)) ++ bytesOf version ++ drop (at + versionBytes) (now (buffer .entry)) ⌝ }
+{
+    buffer[at] = (version / 0x1000000 % 256) as u8;
+    buffer[at + 1] = (version / 0x10000 % 256) as u8;
+    buffer[at + 2] = (version / 0x100 % 256) as u8;
+    buffer[at + 3] = (version % 256) as u8;
+}
+
+// Puts a list at the front of the buffer and answers true; where there is no room it answers false and
+// leaves the buffer as found.
+pub fn put_list(versions: &[u32], buffer: &mut [u8]) -> bool
+    ensures answer { λ r. ⌜ r ≡ leb (versionBytes * length (now (versions .entry))) (length (now (buffer .entry))) ⌝ }
+    ensures left { λ _. ⌜ now (buffer .exit) ≡ afterPut (now (versions .entry)) (now (buffer .entry)) ⌝ }
+{
+    let count = versions.len();
+    if buffer.len() / 4 < count {
+        return false;
+    }
+    let mut i = 0;
+    while i < count {
+        put_at(buffer, i * 4, versions[i]);
+        i += 1;
+    }
+    true
+}
