@@ -11,12 +11,7 @@ use crate::OwnList;
 use versions::MAX_TABLE;
 
 // The word of a version: that of its first place in the table, 0 where it has none.
-fn word_of(
-    table: [u32; MAX_TABLE],
-    count: usize,
-    rows: [u64; MAX_TABLE],
-    version: u32,
-) -> u64
+fn word_of(table: [u32; MAX_TABLE], count: usize, rows: [u64; MAX_TABLE], version: u32) -> u64
     requires { ⌜ count ≤ maxTable ⌝ }
     ensures { λ r. ⌜ r ≡ wordOf (take count table) rows version ⌝ }
 {

@@ -19,8 +19,8 @@ use attempt::Event;
 use attempt::MAX_ID;
 use attempt::StartAnswer;
 use attempt::own::own_list;
-use client_start::start;
 use client::stepping::step_any;
+use client_start::start;
 use information::Presence;
 use versions::MAX_TABLE;
 

@@ -8,17 +8,17 @@ ghost use Rattle.versions.specs.Wire.{entries, entryAt};
 ghost use Rattle.server.specs.FirstFlight.{decide};
 ghost use Rattle.c_interface.specs.Numbers.{flag, refusalOf, leaving, itself, isThere, valueOr, presenceOf, forKnown, actNumber};
 use crate::NOT_VALID;
+use choosing::choose_from;
+use choosing::choose_from_bytes;
 use information::Presence;
+use lists::entry_at;
 use server::Decision;
 use server::choose_after_first_flight;
 use versions::Choice;
 use versions::Entry;
-use choosing::choose_from;
-use choosing::choose_from_bytes;
 use versions::pairs::are_pairs;
 use versions::table::is_reserved;
 use versions::table::is_table;
-use lists::entry_at;
 
 // 1 if the version is reserved (0x?a?a?a?a), else 0.
 #[no_mangle]

@@ -22,19 +22,19 @@ use attempt::MAX_ID;
 use attempt::NOT_A_RECORD;
 use attempt::Stepped;
 use attempt::own::is_own;
+use choosing::prefer;
+use choosing::prefer_in_bytes;
 use information::Information;
 use information::Presence;
 use information::Sender;
 use information::read_information;
 use invariants::Header;
 use invariants::reader::read_header;
+use lists::contains_in_bytes;
 use refusals::Refusal;
 use versions::Entry;
 use versions::MAX_TABLE;
 use versions::Span;
-use choosing::prefer;
-use choosing::prefer_in_bytes;
-use lists::contains_in_bytes;
 
 // The record with the fields that an event may change; every other field stays.
 fn changed(attempt: Attempt, attempted: u32, acted: bool, heard: bool, end: End) -> Attempt

@@ -8,14 +8,15 @@ ghost use Rattle.attempt.specs.Attempt.{padded};
 ghost use Rattle.attempt.specs.Events.{Reachable};
 ghost use Rattle.attempt.specs.Limits.{maxID};
 ghost use Rattle.attempt.specs.Start.{inputOf, isAccepted, shownStart, startOf, refusedStart, openedStart, blank};
+
 mod words; // the words that the record keeps own lists as
 
+use crate::words::rows_for;
 use attempt::Attempt;
 use attempt::End;
 use attempt::MAX_ID;
 use attempt::StartAnswer;
 use attempt::Started;
-use crate::words::rows_for;
 use refusals::Refusal;
 use versions::MAX_TABLE;
 use versions::pairs::are_pairs;

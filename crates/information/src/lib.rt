@@ -8,13 +8,13 @@ ghost use Rattle.refusals.specs.Written.{writtenReply, counted, leaves};
 ghost use Rattle.versions.specs.Table.{elem};
 ghost use Rattle.versions.specs.Wire.{entries};
 ghost use Rattle.information.specs.Information.{isClient, readInformation, informationReply, informationBytes, informationLength, informationToWrite};
+use lists::big_endian;
+use lists::contains_in_bytes;
+use lists::put_list;
 use refusals::Refusal;
 use refusals::Written;
 use versions::Span;
 use versions::table::contains;
-use lists::big_endian;
-use lists::contains_in_bytes;
-use lists::put_list;
 
 // The most bytes of Version Information: the Chosen Version and MAX_AVAILABLE Available Versions.
 pub const MAX_INFORMATION: usize = 1024;

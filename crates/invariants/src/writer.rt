@@ -17,11 +17,11 @@ use crate::fields::byte_at;
 use crate::fields::destination_length;
 use crate::fields::source_length;
 use crate::fields::version_of;
+use lists::put_list;
 use refusals::Refusal;
 use refusals::Written;
 use versions::table::contains;
 use versions::table::is_table;
-use lists::put_list;
 
 // Writes the packet at the buffer's front and answers its byte count, at most 581: first byte 128 plus
 // the unused bits, version 0, the received source connection ID as destination, the received destination

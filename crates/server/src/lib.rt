@@ -10,12 +10,12 @@ use information::Information;
 use information::Presence;
 use information::Sender;
 use information::read_information;
+use lists::contains_in_bytes;
 use refusals::Refusal;
 use versions::pairs::are_pairs;
 use versions::pairs::is_paired;
 use versions::table::contains;
 use versions::table::is_table;
-use lists::contains_in_bytes;
 
 // What the server does: it refuses, it sends a Version Negotiation packet, or it uses a version.
 pub enum Decision {

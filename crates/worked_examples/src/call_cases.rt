@@ -1,49 +1,10 @@
-// "Calls from both sides of the line": those that are not marked P.
-use crate::show::decision;
+// "Calls from both sides of the line", Version Information: how long it may be.
 use crate::show::received;
-use information::Presence;
 use information::Sender;
 
 pub(crate) fn all() {
-    by_the_server();
     short_information();
     long_information();
-}
-
-// A server that reads 3, and a client's first flight in 3.
-fn flight(label: &[u8], accepted: &[u32], pairs: &[[u32; 2]]) {
-    decision(
-        label,
-        &[3],
-        accepted,
-        pairs,
-        3,
-        Presence::Given,
-        b"\0\0\0\x03\0\0\0\x03\0\0\0\x04",
-    );
-}
-
-fn by_the_server() {
-    flight(
-        b"reads 3, first flight in 3, Chosen 3, Available 3, 4, accepting 4, 3, pair 3 to 4: ",
-        &[4, 3],
-        &[[3, 4]],
-    );
-    flight(
-        b"reads 3, first flight in 3, Chosen 3, Available 3, 4, accepting 4, 3, pair 4 to 3: ",
-        &[4, 3],
-        &[[4, 3]],
-    );
-    flight(
-        b"reads 3, first flight in 3, Chosen 3, Available 3, 4, accepting 4, 3, no pair: ",
-        &[4, 3],
-        &[],
-    );
-    flight(
-        b"reads 3, first flight in 3, Chosen 3, Available 3, 4, accepting 4, no pair: ",
-        &[4],
-        &[],
-    );
 }
 
 fn short_information() {

@@ -34,18 +34,6 @@ pub(crate) fn version(words: &[u8], version: u32) {
     number(version as u64);
 }
 
-// The first versions of a list, as many as `count`, each behind a space.
-pub(crate) fn versions(list: &[u32], count: usize) {
-    let mut i = 0;
-    while i < list.len() {
-        if count <= i {
-            return;
-        }
-        version(b" ", list[i]);
-        i += 1;
-    }
-}
-
 // Where a part lies: from a place up to, and not with, another.
 pub(crate) fn place(name: &[u8], part: Span) {
     text(name);

@@ -1,12 +1,12 @@
-// One call of a reader, a writer or a choice, and one line with its answer.
+// One call of a reader, of a writer or of the choice from a list, and one line with its answer.
 use crate::say::hex;
 use crate::say::number;
 use crate::say::place;
 use crate::say::refused;
 use crate::say::text;
 use crate::say::version;
+use choosing::choose_from;
 use information::Information;
-use information::Presence;
 use information::Sender;
 use information::read_information;
 use information::write_information;
@@ -15,11 +15,8 @@ use invariants::reader::read_header;
 use invariants::writer::write_version_negotiation;
 use refusals::Call;
 use refusals::Written;
-use server::Decision;
-use server::choose_after_first_flight;
 use versions::Choice;
 use versions::Span;
-use choosing::choose_from;
 
 fn long_form(number: u32, destination: Span, source: Span, rest: Span) {
     version(b"long form, version ", number);
@@ -140,25 +137,6 @@ pub(crate) fn choice(label: &[u8], table: &[u32], list: &[u32]) {
     match choose_from(table, list) {
         Choice::Refused(refusal) => refused(refusal, Call::Reading),
         Choice::Version(chosen) => version(b"choose ", chosen),
-    }
-    text(b"\n");
-}
-
-// The server's choice after a first flight.
-pub(crate) fn decision(
-    label: &[u8],
-    readable: &[u32],
-    accepted: &[u32],
-    pairs: &[[u32; 2]],
-    flight: u32,
-    presence: Presence,
-    bytes: &[u8],
-) {
-    text(label);
-    match choose_after_first_flight(readable, accepted, pairs, flight, presence, bytes) {
-        Decision::Refused(refusal) => refused(refusal, Call::Reading),
-        Decision::Negotiate => text(b"negotiate"),
-        Decision::Use(chosen) => version(b"use ", chosen),
     }
     text(b"\n");
 }

@@ -1,17 +1,15 @@
-// "How a version is chosen": from a list, by the server, by the client.
+// "How a version is chosen": by the server, by the client.
 use crate::records;
-use crate::show::choice;
-use crate::show::decision;
 use crate::show_client::begin;
 use crate::show_client::datagram;
 use crate::show_client::missing;
 use crate::show_client::outcome;
 use crate::show_client::own;
 use crate::show_client::processed;
+use crate::show_server::decision;
 use information::Presence;
 
 pub(crate) fn all() {
-    from_a_list();
     by_the_server();
     starts();
     own_lists();
@@ -19,21 +17,9 @@ pub(crate) fn all() {
     attempt_with_pairs();
 }
 
-fn from_a_list() {
-    choice(b"table 14, 12, 10, list 10, 12: ", &[14, 12, 10], &[10, 12]);
-    choice(b"table 14, 12, 10, list 0, 10: ", &[14, 12, 10], &[0, 10]);
-    let longest = [10u32; 16382];
-    choice(
-        b"table 14, 12, 10, list of 16382 times 10: ",
-        &[14, 12, 10],
-        &longest,
-    );
-}
-
 fn by_the_server() {
     decision(
         b"reads 3, accepts 4, 3, first flight in 9, malformed information: ",
-        &[3],
         &[4, 3],
         &[],
         9,
@@ -42,7 +28,6 @@ fn by_the_server() {
     );
     decision(
         b"reads 3, accepts 4, 3, first flight in 3, information missing: ",
-        &[3],
         &[4, 3],
         &[],
         3,
@@ -51,7 +36,6 @@ fn by_the_server() {
     );
     decision(
         b"reads 3, accepts 4, first flight in 3, information missing: ",
-        &[3],
         &[4],
         &[],
         3,
@@ -63,7 +47,6 @@ fn by_the_server() {
 fn starts() {
     begin(
         b"start with table 14, 12, 10, Original 12, empty connection IDs: ",
-        &[14, 12, 10],
         &[],
         12,
         &[],
@@ -72,7 +55,6 @@ fn starts() {
     let id = [7u8; 20];
     begin(
         b"start with two equal connection IDs of 20 bytes: ",
-        &[14, 12, 10],
         &[],
         12,
         &id,

@@ -1,26 +1,16 @@
-// "When the desk says no", 40 to 51: lists, tables, pairs, starts, the server's choice.
-use crate::show::choice;
-use crate::show::decision;
+// "When the desk says no", 43 to 51: starts, the server's choice.
 use crate::show_client::begin;
+use crate::show_server::decision;
 use information::Presence;
 
 pub(crate) fn all() {
-    of_lists();
     of_starts();
     of_the_server();
-}
-
-fn of_lists() {
-    let long = [14u32; 16383];
-    choice(b"list of 16383 entries: ", &[14], &long);
-    choice(b"table 14, 14, list 14: ", &[14, 14], &[14]);
-    choice(b"table 14, 12, 10, list 13, 9: ", &[14, 12, 10], &[13, 9]);
 }
 
 fn of_starts() {
     begin(
         b"start with pair 12 to 12: ",
-        &[14, 12, 10],
         &[[12, 12]],
         12,
         &[0xaa],
@@ -28,7 +18,6 @@ fn of_starts() {
     );
     begin(
         b"start with table 14, 12, 10, Original 13: ",
-        &[14, 12, 10],
         &[],
         13,
         &[0xaa],
@@ -37,7 +26,6 @@ fn of_starts() {
     let long = [0xaau8; 21];
     begin(
         b"start with a connection ID of 21 bytes: ",
-        &[14, 12, 10],
         &[],
         12,
         &long,
@@ -48,7 +36,6 @@ fn of_starts() {
 fn of_the_server() {
     decision(
         b"reads 3, accepts 4, 3, first flight in 3, Chosen 4, Available 4, 3: ",
-        &[3],
         &[4, 3],
         &[],
         3,

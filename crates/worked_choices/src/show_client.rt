@@ -11,25 +11,23 @@ use attempt::End;
 use attempt::Event;
 use attempt::StartAnswer;
 use attempt::own::own_list;
-use client_start::start;
 use client::stepping::step;
+use client_start::start;
 use information::Presence;
-use refusals::Call;
 
-// A start, which may be refused.
+// A start with table 14, 12, 10, which may be refused.
 pub(crate) fn begin(
     label: &[u8],
-    table: &[u32],
     pairs: &[[u32; 2]],
     original: u32,
     destination: &[u8],
     source: &[u8],
 ) {
     text(label);
-    let started = start(table, pairs, original, destination, source);
+    let started = start(&[14, 12, 10], pairs, original, destination, source);
     let answer = started.answer;
     match answer {
-        StartAnswer::Refused(refusal) => refused(refusal, Call::Reading),
+        StartAnswer::Refused(refusal) => refused(refusal),
         StartAnswer::Opened => text(b"opened"),
     }
     text(b"\n");
@@ -47,7 +45,7 @@ pub(crate) fn own(label: &[u8], attempt: Attempt) {
 
 fn answered(answer: Answer) {
     match answer {
-        Answer::Refused(refusal) => refused(refusal, Call::Reading),
+        Answer::Refused(refusal) => refused(refusal),
         Answer::Acted(attempted) => version(b"attempt ", attempted),
         Answer::Noted => text(b"noted"),
         Answer::Completed(in_use) => version(b"complete with ", in_use),
