@@ -7,6 +7,7 @@ use refusals::Refusal;
 use versions::Choice;
 use versions::Entry;
 use versions::MAX_LIST;
+use versions::VERSION_BYTES;
 use versions::table::contains;
 use versions::table::is_table;
 
@@ -69,7 +70,7 @@ pub fn choose_from(table: &[u32], list: &[u32]) -> Choice
 pub fn choose_from_bytes(table: &[u32], bytes: &[u8]) -> Choice
     ensures { λ r. ⌜ choiceReply r ≡ choose (now (table .entry)) (entries (now (bytes .entry))) ⌝ }
 {
-    if MAX_LIST < bytes.len() / 4 {
+    if MAX_LIST < bytes.len() / VERSION_BYTES {
         return Choice::Refused(Refusal::LIST_TOO_LONG);
     }
     if !is_table(table) {

@@ -35,6 +35,7 @@ use refusals::Refusal;
 use versions::Entry;
 use versions::MAX_TABLE;
 use versions::Span;
+use versions::VERSION_BYTES;
 
 // The record with the fields that an event may change; every other field stays.
 fn changed(attempt: Attempt, attempted: u32, acted: bool, heard: bool, end: End) -> Attempt
@@ -192,7 +193,7 @@ fn judge_outcome(attempt: Attempt, in_use: u32, chosen: u32, available: &[u8]) -
     if !attempt.acted {
         return complete(attempt, in_use);
     }
-    if available.len() < 4 {
+    if available.len() < VERSION_BYTES {
         return close(attempt, Refusal::AVAILABLE_EMPTY);
     }
     let table = attempt.table;

@@ -14,6 +14,7 @@ use lists::put_list;
 use refusals::Refusal;
 use refusals::Written;
 use versions::Span;
+use versions::VERSION_BYTES;
 use versions::table::contains;
 
 // The most bytes of Version Information: the Chosen Version and MAX_AVAILABLE Available Versions.
@@ -46,10 +47,10 @@ pub fn read_information(sender: Sender, bytes: &[u8]) -> Information
     ensures { λ r. ⌜ informationReply r ≡ readInformation sender (now (bytes .entry)) ⌝ }
 {
     let length = bytes.len();
-    if length < 4 {
+    if length < VERSION_BYTES {
         return Information::Refused(Refusal::INFORMATION_TOO_SHORT);
     }
-    if length % 4 != 0 {
+    if length % VERSION_BYTES != 0 {
         return Information::Refused(Refusal::INFORMATION_NOT_IN_FOURS);
     }
     if MAX_INFORMATION < length {
@@ -59,16 +60,16 @@ pub fn read_information(sender: Sender, bytes: &[u8]) -> Information
     if chosen == 0 {
         return Information::Refused(Refusal::CHOSEN_IS_ZERO);
     }
-    if contains_in_bytes(&bytes[4..], 0) {
+    if contains_in_bytes(&bytes[VERSION_BYTES..], 0) {
         return Information::Refused(Refusal::AVAILABLE_HOLDS_ZERO);
     }
-    if read_lacks_chosen(sender, chosen, &bytes[4..]) {
+    if read_lacks_chosen(sender, chosen, &bytes[VERSION_BYTES..]) {
         return Information::Refused(Refusal::CHOSEN_NOT_AVAILABLE);
     }
     Information::Read {
         chosen,
         available: Span {
-            start: 4,
+            start: VERSION_BYTES,
             end: length,
         },
     }
@@ -109,7 +110,7 @@ pub fn write_information(
     if written_lacks_chosen(sender, chosen, available) {
         return Written::Refused(Refusal::CHOSEN_NOT_AVAILABLE);
     }
-    let count = 4 + 4 * available.len();
+    let count = VERSION_BYTES + VERSION_BYTES * available.len();
     if buffer.len() < count {
         return Written::Refused(Refusal::NO_ROOM_FOR_INFORMATION);
     }
@@ -133,5 +134,5 @@ fn put_information(chosen: u32, available: &[u32], buffer: &mut [u8])
     ensures { λ _. ⌜ now (buffer .exit) ≡ informationBytes chosen (now (available .entry)) ++ drop (informationLength (now (available .entry))) (now (buffer .entry)) ⌝ }
 {
     put_list(&[chosen], buffer);
-    put_list(available, &mut buffer[4..]);
+    put_list(available, &mut buffer[VERSION_BYTES..]);
 }

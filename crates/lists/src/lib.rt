@@ -7,6 +7,7 @@ ghost use lib.ListN.{length, take, drop};
 ghost use Rattle.versions.specs.Table.{elem};
 ghost use Rattle.versions.specs.Wire.{number, numberAt, entries, entryAt, entryReply, bytesOf, versionBytes, afterPut};
 use versions::Entry;
+use versions::VERSION_BYTES;
 
 fn wide(byte: u8) -> u32
     ensures { λ r. ⌜ r ≡ byte ⌝ }
@@ -34,8 +35,8 @@ fn number_at(bytes: &[u8], at: usize) -> u32
 pub fn entry_at(bytes: &[u8], place: usize) -> Entry
     ensures { λ r. ⌜ entryReply r ≡ entryAt (entries (now (bytes .entry))) place ⌝ }
 {
-    if place < bytes.len() / 4 {
-        Entry::Version(number_at(bytes, place * 4))
+    if place < bytes.len() / VERSION_BYTES {
+        Entry::Version(number_at(bytes, place * VERSION_BYTES))
     } else {
         Entry::Nothing
     }
@@ -45,10 +46,10 @@ pub fn entry_at(bytes: &[u8], place: usize) -> Entry
 pub fn contains_in_bytes(bytes: &[u8], version: u32) -> bool
     ensures { λ r. ⌜ r ≡ elem version (entries (now (bytes .entry))) ⌝ }
 {
-    let count = bytes.len() / 4;
+    let count = bytes.len() / VERSION_BYTES;
     let mut i = 0;
     while i < count {
-        if number_at(bytes, i * 4) == version {
+        if number_at(bytes, i * VERSION_BYTES) == version {
             return true;
         }
         i += 1;
@@ -74,12 +75,12 @@ pub fn put_list(versions: &[u32], buffer: &mut [u8]) -> bool
     ensures left { λ _. ⌜ now (buffer .exit) ≡ afterPut (now (versions .entry)) (now (buffer .entry)) ⌝ }
 {
     let count = versions.len();
-    if buffer.len() / 4 < count {
+    if buffer.len() / VERSION_BYTES < count {
         return false;
     }
     let mut i = 0;
     while i < count {
-        put_at(buffer, i * 4, versions[i]);
+        put_at(buffer, i * VERSION_BYTES, versions[i]);
         i += 1;
     }
     true

@@ -3,6 +3,8 @@
 pub mod pairs; // compatible pairs
 pub mod table; // reserved numbers, tables and lists
 
+// The bytes that a version takes on the wire.
+pub const VERSION_BYTES: usize = 4;
 // The most entries that a table of versions has.
 pub const MAX_TABLE: usize = 16;
 // The most pairs that a table of compatible pairs has.
