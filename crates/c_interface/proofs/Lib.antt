@@ -1,3 +1,1 @@
 pub mod Crossing
-pub mod Lossless
-pub mod Records

@@ -1,6 +1,6 @@
 -- Answers as numbers. A refusal is its number, 0 is none; a value goes into a lent number, which a refusal leaves.
 use Prim.Native.Nat.{ℕ}
-use mathlib.Core.Bool.{Bool, true, false, cond}
+use mathlib.Core.Bool.{cond}
 use mathlib.Core.List.{List, [], _∷_}
 use mathlib.Core.Option.{Option, Option.none, Option.some}
 use lib.Dec.{eqb}
@@ -14,32 +14,20 @@ use Rattle.information.specs.Information.{Found}
 use Rattle.information.specs.declared.Presence.{Presence}
 use Rattle.information.specs.declared.Presence.the-variants.{Missing, Given}
 use Rattle.information.specs.declared.Sender.{Sender}
-use Rattle.server.specs.FirstFlight.{Act, Act.negotiate, Act.use-version}
 use Rattle.information.specs.declared.Sender.the-variants.{Client, Server}
-
--- The number for what no caller may hand over
-abbrev pub notValid : ℕ
-notValid = 255
-
-abbrev pub interfaceVersion : ℕ
-interfaceVersion = 1
+use Rattle.server.specs.FirstFlight.{Act, Act.negotiate, Act.use-version}
+use Rattle.c_record.specs.Numbers.{notValid, refusalOf}
 
 abbrev pub closeNumber : Close → ℕ
 closeNumber Nothing = 0
 closeNumber (With code) = code
 
--- A test as a number
-abbrev pub flag : Bool → ℕ
-flag false = 0
-flag true = 1
+-- What a function returns for an answer: the number of its refusal, 0 where there is none
+abbrev pub returned : {A : Type 0} → Reply A → ℕ
+returned reply = refusalOf reply
 
--- The number of a refusal, 0 where there is none
-abbrev pub refusalOf : {A : Type 0} → Reply A → ℕ
-refusalOf (refused n c) = n
-refusalOf (answered a) = 0
-
--- What a lent place holds after an answer: what is read off its value, or, after a refusal, what it held
-abbrev pub leaving : {A B : Type 0} → (A → B) → Reply A → B → B
+-- What a lent number holds after an answer: what is read off its value, or, after a refusal, what it held
+abbrev pub leaving : {A : Type 0} → (A → ℕ) → Reply A → ℕ → ℕ
 leaving value (refused n c) found = found
 leaving value (answered a) found = value a
 
@@ -71,6 +59,11 @@ abbrev pub formPlaces : Form → List ℕ
 formPlaces (long v d s r) = d .start ∷ d .end ∷ s .start ∷ s .end ∷ r .start ∷ r .end ∷ []
 formPlaces (short d r) = d .start ∷ d .end ∷ 0 ∷ 0 ∷ r .start ∷ r .end ∷ []
 formPlaces (versionNegotiation d s l) = d .start ∷ d .end ∷ s .start ∷ s .end ∷ l .start ∷ l .end ∷ []
+
+-- What the lent places of a header hold after an answer
+abbrev pub leavingPlaces : Reply Form → List ℕ → List ℕ
+leavingPlaces (refused n c) found = found
+leavingPlaces (answered form) found = formPlaces form
 
 -- Senders: 0 a client, 1 a server
 unfoldable pub senderOf : ℕ → Option Sender

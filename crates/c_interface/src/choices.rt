@@ -6,8 +6,9 @@ ghost use Rattle.versions.specs.Table.{tableKeepsRule};
 ghost use Rattle.versions.specs.Version.{reserved};
 ghost use Rattle.versions.specs.Wire.{entries, entryAt};
 ghost use Rattle.server.specs.FirstFlight.{decide};
-ghost use Rattle.c_interface.specs.Numbers.{flag, refusalOf, leaving, itself, isThere, valueOr, presenceOf, forKnown, actNumber};
-use crate::NOT_VALID;
+ghost use Rattle.c_record.specs.Numbers.{flag};
+ghost use Rattle.c_interface.specs.Numbers.{returned, leaving, itself, isThere, valueOr, presenceOf, forKnown, actNumber};
+use c_record::NOT_VALID;
 use information::Presence;
 use server::Decision;
 use server::choose_after_first_flight;
@@ -63,7 +64,7 @@ pub extern "C" fn qv_entry(list: &[u8], place: usize, version: &mut u32) -> u32
 // The choice from a list: 40, 41, 42, which leave `version` as found; else 0 and the chosen version.
 #[no_mangle]
 pub extern "C" fn qv_choose(table: &[u32], list: &[u32], version: &mut u32) -> u32
-    ensures answer { λ r. ⌜ r ≡ refusalOf (choose (now (table .entry)) (now (list .entry))) ⌝ }
+    ensures answer { λ r. ⌜ r ≡ returned (choose (now (table .entry)) (now (list .entry))) ⌝ }
     ensures left { λ _. ⌜ now (version .exit) ≡ leaving itself (choose (now (table .entry)) (now (list .entry))) (now (version .entry)) ⌝ }
 {
     match choose_from(table, list) {
@@ -78,7 +79,7 @@ pub extern "C" fn qv_choose(table: &[u32], list: &[u32], version: &mut u32) -> u
 // The choice from a list as it lies on the wire. Refusals as `qv_choose`'s.
 #[no_mangle]
 pub extern "C" fn qv_choose_from_bytes(table: &[u32], bytes: &[u8], version: &mut u32) -> u32
-    ensures answer { λ r. ⌜ r ≡ refusalOf (choose (now (table .entry)) (entries (now (bytes .entry)))) ⌝ }
+    ensures answer { λ r. ⌜ r ≡ returned (choose (now (table .entry)) (entries (now (bytes .entry)))) ⌝ }
     ensures left { λ _. ⌜ now (version .exit) ≡ leaving itself (choose (now (table .entry)) (entries (now (bytes .entry)))) (now (version .entry)) ⌝ }
 {
     match choose_from_bytes(table, bytes) {
@@ -103,7 +104,7 @@ pub extern "C" fn qv_server_choice(
     information: &[u8],
     decision: &mut u32,
 ) -> u32
-    ensures answer { λ r. ⌜ r ≡ refusalOf (forKnown (λ p. decide (now (readable .entry)) (now (accepted .entry)) (now (pairs .entry)) version p (now (information .entry))) (presenceOf presence)) ⌝ }
+    ensures answer { λ r. ⌜ r ≡ returned (forKnown (λ p. decide (now (readable .entry)) (now (accepted .entry)) (now (pairs .entry)) version p (now (information .entry))) (presenceOf presence)) ⌝ }
     ensures left { λ _. ⌜ now (decision .exit) ≡ leaving actNumber (forKnown (λ p. decide (now (readable .entry)) (now (accepted .entry)) (now (pairs .entry)) version p (now (information .entry))) (presenceOf presence)) (now (decision .entry)) ⌝ }
 {
     if presence == 0 {
@@ -141,7 +142,7 @@ fn choice_with(
     information: &[u8],
     decision: &mut u32,
 ) -> u32
-    ensures answer { λ r. ⌜ r ≡ refusalOf (decide (now (readable .entry)) (now (accepted .entry)) (now (pairs .entry)) version presence (now (information .entry))) ⌝ }
+    ensures answer { λ r. ⌜ r ≡ returned (decide (now (readable .entry)) (now (accepted .entry)) (now (pairs .entry)) version presence (now (information .entry))) ⌝ }
     ensures left { λ _. ⌜ now (decision .exit) ≡ leaving actNumber (decide (now (readable .entry)) (now (accepted .entry)) (now (pairs .entry)) version presence (now (information .entry))) (now (decision .entry)) ⌝ }
 {
     match choose_after_first_flight(readable, accepted, pairs, version, presence, information) {

@@ -6,8 +6,8 @@ ghost use Rattle.refusals.specs.Written.{leaves};
 ghost use Rattle.invariants.specs.Header.{readHeader};
 ghost use Rattle.invariants.specs.Packet.{negotiationPacket};
 ghost use Rattle.information.specs.Information.{readInformation, informationToWrite};
-ghost use Rattle.c_interface.specs.Numbers.{refusalOf, leaving, formNumber, formVersion, formPlaces, senderOf, forKnown, chosenIn, startIn, endIn};
-use crate::NOT_VALID;
+ghost use Rattle.c_interface.specs.Numbers.{returned, leaving, formNumber, formVersion, leavingPlaces, senderOf, forKnown, chosenIn, startIn, endIn};
+use c_record::NOT_VALID;
 use information::Information;
 use information::Sender;
 use information::read_information;
@@ -29,10 +29,10 @@ pub extern "C" fn qv_read_header(
     version: &mut u32,
     places: &mut [usize; 6],
 ) -> u32
-    ensures answer { λ r. ⌜ r ≡ refusalOf (readHeader (now (datagram .entry)) told) ⌝ }
+    ensures answer { λ r. ⌜ r ≡ returned (readHeader (now (datagram .entry)) told) ⌝ }
     ensures form { λ _. ⌜ now (form .exit) ≡ leaving formNumber (readHeader (now (datagram .entry)) told) (now (form .entry)) ⌝ }
     ensures version { λ _. ⌜ now (version .exit) ≡ leaving formVersion (readHeader (now (datagram .entry)) told) (now (version .entry)) ⌝ }
-    ensures places { λ _. ⌜ now (places .exit) ≡ leaving formPlaces (readHeader (now (datagram .entry)) told) (now (places .entry)) ⌝ }
+    ensures places { λ _. ⌜ now (places .exit) ≡ leavingPlaces (readHeader (now (datagram .entry)) told) (now (places .entry)) ⌝ }
 {
     match read_header(datagram, told) {
         Header::Refused(refusal) => refusal.0 as u32,
@@ -93,7 +93,7 @@ pub extern "C" fn qv_write_version_negotiation(
     buffer: &mut [u8],
     count: &mut usize,
 ) -> u32
-    ensures answer { λ r. ⌜ r ≡ refusalOf (negotiationPacket (now (received .entry)) (now (offered .entry)) «unused_bits» (length (now (buffer .entry)))) ⌝ }
+    ensures answer { λ r. ⌜ r ≡ returned (negotiationPacket (now (received .entry)) (now (offered .entry)) «unused_bits» (length (now (buffer .entry)))) ⌝ }
     ensures left { λ _. ⌜ now (buffer .exit) ≡ leaves (negotiationPacket (now (received .entry)) (now (offered .entry)) «unused_bits» (length (now (buffer .entry)))) (now (buffer .entry)) ⌝ }
     ensures counted { λ _. ⌜ now (count .exit) ≡ leaving length (negotiationPacket (now (received .entry)) (now (offered .entry)) «unused_bits» (length (now (buffer .entry)))) (now (count .entry)) ⌝ }
 {
@@ -116,7 +116,7 @@ pub extern "C" fn qv_read_information(
     start: &mut usize,
     end: &mut usize,
 ) -> u32
-    ensures answer { λ r. ⌜ r ≡ refusalOf (forKnown (λ s. readInformation s (now (bytes .entry))) (senderOf sender)) ⌝ }
+    ensures answer { λ r. ⌜ r ≡ returned (forKnown (λ s. readInformation s (now (bytes .entry))) (senderOf sender)) ⌝ }
     ensures chosen { λ _. ⌜ now (chosen .exit) ≡ leaving chosenIn (forKnown (λ s. readInformation s (now (bytes .entry))) (senderOf sender)) (now (chosen .entry)) ⌝ }
     ensures start { λ _. ⌜ now (start .exit) ≡ leaving startIn (forKnown (λ s. readInformation s (now (bytes .entry))) (senderOf sender)) (now (start .entry)) ⌝ }
     ensures end { λ _. ⌜ now (end .exit) ≡ leaving endIn (forKnown (λ s. readInformation s (now (bytes .entry))) (senderOf sender)) (now (end .entry)) ⌝ }
@@ -138,7 +138,7 @@ fn read_as(
     start: &mut usize,
     end: &mut usize,
 ) -> u32
-    ensures answer { λ r. ⌜ r ≡ refusalOf (readInformation sender (now (bytes .entry))) ⌝ }
+    ensures answer { λ r. ⌜ r ≡ returned (readInformation sender (now (bytes .entry))) ⌝ }
     ensures chosen { λ _. ⌜ now (chosen .exit) ≡ leaving chosenIn (readInformation sender (now (bytes .entry))) (now (chosen .entry)) ⌝ }
     ensures start { λ _. ⌜ now (start .exit) ≡ leaving startIn (readInformation sender (now (bytes .entry))) (now (start .entry)) ⌝ }
     ensures end { λ _. ⌜ now (end .exit) ≡ leaving endIn (readInformation sender (now (bytes .entry))) (now (end .entry)) ⌝ }
@@ -167,7 +167,7 @@ pub extern "C" fn qv_write_information(
     buffer: &mut [u8],
     count: &mut usize,
 ) -> u32
-    ensures answer { λ r. ⌜ r ≡ refusalOf (forKnown (λ s. informationToWrite s chosen (now (available .entry)) (length (now (buffer .entry)))) (senderOf sender)) ⌝ }
+    ensures answer { λ r. ⌜ r ≡ returned (forKnown (λ s. informationToWrite s chosen (now (available .entry)) (length (now (buffer .entry)))) (senderOf sender)) ⌝ }
     ensures left { λ _. ⌜ now (buffer .exit) ≡ leaves (forKnown (λ s. informationToWrite s chosen (now (available .entry)) (length (now (buffer .entry)))) (senderOf sender)) (now (buffer .entry)) ⌝ }
     ensures counted { λ _. ⌜ now (count .exit) ≡ leaving length (forKnown (λ s. informationToWrite s chosen (now (available .entry)) (length (now (buffer .entry)))) (senderOf sender)) (now (count .entry)) ⌝ }
 {
@@ -188,7 +188,7 @@ fn write_as(
     buffer: &mut [u8],
     count: &mut usize,
 ) -> u32
-    ensures answer { λ r. ⌜ r ≡ refusalOf (informationToWrite sender chosen (now (available .entry)) (length (now (buffer .entry)))) ⌝ }
+    ensures answer { λ r. ⌜ r ≡ returned (informationToWrite sender chosen (now (available .entry)) (length (now (buffer .entry)))) ⌝ }
     ensures left { λ _. ⌜ now (buffer .exit) ≡ leaves (informationToWrite sender chosen (now (available .entry)) (length (now (buffer .entry)))) (now (buffer .entry)) ⌝ }
     ensures counted { λ _. ⌜ now (count .exit) ≡ leaving length (informationToWrite sender chosen (now (available .entry)) (length (now (buffer .entry)))) (now (count .entry)) ⌝ }
 {

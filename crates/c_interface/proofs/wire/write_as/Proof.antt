@@ -8,7 +8,7 @@ use lib.ListN.{length}
 use Rattle.refusals.specs.Reply.{Reply}
 use Rattle.refusals.specs.Written.{writtenReply}
 use Rattle.information.specs.Information.{informationToWrite}
-use Rattle.c_interface.proofs.Crossing.{written-refusal, written-count}
+use Rattle.c_interface.proofs.Crossing.{written-returned, written-count}
 use Rattle.c_interface.proofs.wire.write_as.Statement.{statement}
 use Rattle.c_interface.proofs.wire.write_as.Tie as tie
 
@@ -36,7 +36,7 @@ returns c =
     let w = c .before .before .before .before .before .before .write-information .ensures in
     let e = sym (ap writtenReply (c .before .before .refusal .given .1)) ∙ w .0 in
     let o = owed (c .before .before .before .before .before .before .before .before .before .before) in
-    (written-refusal o e, (w .1, written-count o _ e))
+    (written-returned o e, (w .1, written-count o _ e))
 
 same-length-2 : tie.Need-same-length-2
 same-length-2 c = search needs
@@ -46,7 +46,7 @@ returns-2 c =
     let w = c .before .before .before .before .before .write-information .ensures in
     let e = sym (ap writtenReply (c .before .information-length .given .1)) ∙ w .0 in
     let o = owed (c .before .before .before .before .before .before .before .before .before) in
-    (written-refusal o e, (w .1, written-count o _ e))
+    (written-returned o e, (w .1, written-count o _ e))
 
 pub write-as-spec : {M : Type 1} → statement M
 write-as-spec =

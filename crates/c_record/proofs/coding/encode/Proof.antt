@@ -3,9 +3,9 @@ use Prim.Native.Nat.{_<_, _^_}
 use native.Mathlib.Omega.{arith}
 use borrow.Author.Needs.{needs}
 use Rattle.client.proofs.Steps.{counts-table, counts-destination, counts-source}
-use Rattle.c_interface.specs.Records.{recordOf}
-use Rattle.c_interface.proofs.attempts.encode.Statement.{statement}
-use Rattle.c_interface.proofs.attempts.encode.Tie as tie
+use Rattle.c_record.specs.Records.{recordOf}
+use Rattle.c_record.proofs.coding.encode.Statement.{statement}
+use Rattle.c_record.proofs.coding.encode.Tie as tie
 
 table-fits : (c : tie.Start) → c .args .attempt .«table_len» < 2 ^ 32
 table-fits c = omega (arith, counts-table (c .args .attempt) (c .pre))

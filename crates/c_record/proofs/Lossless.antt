@@ -23,10 +23,10 @@ use Rattle.client.specs.declared.End.{End}
 use Rattle.client.specs.declared.End.the-variants.{Open, Completed, Closed}
 use Rattle.client.specs.declared.Event.{Event}
 use Rattle.client.specs.declared.Event.the-variants.{Datagram, PacketProcessed, Outcome}
-use Rattle.c_interface.specs.Numbers.{flag}
-use Rattle.c_interface.specs.Records.{Left, markFits, endOf, markOf, markValue, isRecord, attemptOf, recordOf, eventOf, eventOn, leftAfter, stepRecord, startRecord}
-use Rattle.c_interface.specs.declared.Record.{Record}
-use Rattle.c_interface.proofs.Records.{fitting, record-counts, step-counts, start-counts, step-known}
+use Rattle.c_record.specs.Numbers.{flag}
+use Rattle.c_record.specs.Records.{Left, markFits, endOf, markOf, markValue, isRecord, attemptOf, recordOf, eventOf, eventOn, leftAfter, stepRecord, startRecord}
+use Rattle.c_record.specs.declared.Record.{Record}
+use Rattle.c_record.proofs.Records.{fitting, record-counts, step-counts, start-counts, step-known}
 
 -- An attempt comes back from its record
 

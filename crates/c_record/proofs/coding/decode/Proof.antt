@@ -1,9 +1,9 @@
 -- `decode` meets its contract: field by field.
 use borrow.Author.Needs.{needs}
-use Rattle.c_interface.specs.Records.{attemptOf}
-use Rattle.c_interface.proofs.Records.{fitting}
-use Rattle.c_interface.proofs.attempts.decode.Statement.{statement}
-use Rattle.c_interface.proofs.attempts.decode.Tie as tie
+use Rattle.c_record.specs.Records.{attemptOf}
+use Rattle.c_record.proofs.Records.{fitting}
+use Rattle.c_record.proofs.coding.decode.Statement.{statement}
+use Rattle.c_record.proofs.coding.decode.Tie as tie
 
 end-of-requires : tie.Need-end-of-requires
 end-of-requires c κs = fitting _ (c .before .before .before .before .pre) .mark

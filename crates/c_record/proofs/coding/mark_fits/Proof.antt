@@ -1,7 +1,7 @@
 -- `mark_fits` meets its contract: by the mark.
 use borrow.Author.Tests.{eq-eqb, ne-eqb}
-use Rattle.c_interface.proofs.attempts.mark_fits.Statement.{statement}
-use Rattle.c_interface.proofs.attempts.mark_fits.Tie as tie
+use Rattle.c_record.proofs.coding.mark_fits.Statement.{statement}
+use Rattle.c_record.proofs.coding.mark_fits.Tie as tie
 
 returns : tie.Need-returns
 returns c = rw (eq-eqb _ _ (c .if1 .taken))

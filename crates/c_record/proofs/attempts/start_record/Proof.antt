@@ -1,12 +1,12 @@
--- `qv_start` meets its contract: what `start` hands back, as a record.
+-- `start_record` meets its contract: what `start` hands back, as a record.
 use mathlib.Core.Path.{ap}
 use borrow.Author.Needs.{needs}
 use Rattle.client.specs.Start.{Input, Start, inputOf}
-use Rattle.c_interface.specs.Numbers.{refusalOf}
-use Rattle.c_interface.specs.Records.{Left, recordOf}
-use Rattle.c_interface.proofs.Records.{start-counts}
-use Rattle.c_interface.proofs.attempts.qv_start.Statement.{statement}
-use Rattle.c_interface.proofs.attempts.qv_start.Tie as tie
+use Rattle.c_record.specs.Numbers.{refusalOf}
+use Rattle.c_record.specs.Records.{Left, recordOf}
+use Rattle.c_record.proofs.Records.{start-counts}
+use Rattle.c_record.proofs.attempts.start_record.Statement.{statement}
+use Rattle.c_record.proofs.attempts.start_record.Tie as tie
 
 abbrev told : tie.After-start → Input
 told c =
@@ -28,5 +28,5 @@ start-number-requires c κs = search needs
 returns : tie.Need-returns
 returns c = rw (c .before .encode .ensures, c .start-number .ensures) (ap startLeft (c .before .before .before .start .ensures .0))
 
-pub qv-start-spec : {M : Type 1} → statement M
-qv-start-spec = tie.close (tie.spec start-requires encode-requires start-number-requires returns)
+pub start-record-spec : {M : Type 1} → statement M
+start-record-spec = tie.close (tie.spec start-requires encode-requires start-number-requires returns)

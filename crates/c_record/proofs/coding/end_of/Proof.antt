@@ -1,9 +1,9 @@
 -- `end_of` meets its contract: by the mark.
 use native.Mathlib.Omega.{arith}
 use borrow.Author.Tests.{eq-eqb, ne-eqb}
-use Rattle.c_interface.proofs.Records.{closed-value}
-use Rattle.c_interface.proofs.attempts.end_of.Statement.{statement}
-use Rattle.c_interface.proofs.attempts.end_of.Tie as tie
+use Rattle.c_record.proofs.Records.{closed-value}
+use Rattle.c_record.proofs.coding.end_of.Statement.{statement}
+use Rattle.c_record.proofs.coding.end_of.Tie as tie
 
 returns : tie.Need-returns
 returns c = rw (eq-eqb _ _ (c .if1 .taken))

@@ -1,12 +1,12 @@
 -- The attempt's record without enums, as C keeps it.
 use Prim.Native.Nat.{ℕ}
 use mathlib.Core.Bool.{Bool, true, cond, _&&_}
-use mathlib.Core.List.{List}
+use mathlib.Core.List.{List, []}
 use mathlib.Core.Option.{Option, Option.none, Option.some}
 use lib.Dec.{eqb, leb}
-use lib.ListN.{replicate}
 use Rattle.versions.specs.Limits.{maxTable}
 use Rattle.information.specs.declared.Presence.the-variants.{Missing, Given}
+use Rattle.client.specs.Attempt.{listInPlaces, ownListOf}
 use Rattle.client.specs.Limits.{maxID}
 use Rattle.client.specs.Start.{Input, startOf}
 use Rattle.client.specs.Step.{After, stepOf}
@@ -15,9 +15,10 @@ use Rattle.client.specs.declared.End.{End}
 use Rattle.client.specs.declared.End.the-variants.{Open, Completed, Closed}
 use Rattle.client.specs.declared.Event.{Event}
 use Rattle.client.specs.declared.Event.the-variants.{Datagram, PacketProcessed, Outcome}
-use Rattle.c_interface.specs.Numbers.{flag, notValid, refusalOf}
-use Rattle.c_interface.specs.declared.Record.{Record}
-use Rattle.c_interface.specs.declared.RecordAndRefusal.{RecordAndRefusal}
+use Rattle.client.specs.declared.OwnList.{OwnList}
+use Rattle.c_record.specs.Numbers.{flag, notValid, refusalOf}
+use Rattle.c_record.specs.declared.Record.{Record}
+use Rattle.c_record.specs.declared.RecordAndRefusal.{RecordAndRefusal}
 
 -- End marks: 0 open (value 0), 1 completed with the version, 2 closed with the number
 abbrev pub markFits : ℕ → ℕ → Bool
@@ -112,29 +113,9 @@ stepRecord r kind value bytes = cond (isRecord r) (eventOn r bytes (eventOf kind
 abbrev pub startRecord : Input → Left
 startRecord x = record { left = recordOf (startOf x .attempt); refusal = refusalOf (startOf x .reply) }
 
--- The size of the record in bytes: no padding, which C and Rust check
-abbrev pub recordSize : ℕ
-recordSize = 272
-
 abbrev pub shownLeft : RecordAndRefusal → Left
 shownLeft s = record { left = s .attempt; refusal = s .refusal }
 
--- The values that `qv_known_record` fills in
-unfoldable pub knownRecord : Record
-knownRecord =
-    record {
-      rows = replicate maxTable 0x1112131415161718;
-      table = replicate maxTable 0x21222324;
-      destination = replicate maxID 0x31;
-      source = replicate maxID 0x32;
-      «table_len» = 0x41;
-      «destination_len» = 0x42;
-      «source_len» = 0x43;
-      original = 0x44;
-      attempted = 0x45;
-      acted = 0x46;
-      heard = 0x47;
-      «end_mark» = 0x48;
-      «end_value» = 0x49;
-      unused = 0x4a;
-    }
+-- The own list of its attempt; the empty list for a record that no attempt has
+unfoldable pub ownRecord : Record → OwnList
+ownRecord r = cond (isRecord r) (ownListOf (attemptOf r)) (listInPlaces [])

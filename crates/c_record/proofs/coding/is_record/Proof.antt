@@ -7,10 +7,10 @@ use borrow.Author.Needs.{needs}
 use borrow.Author.Tests.{lt-leb, le-leb, not-true, not-false}
 use Rattle.versions.specs.Limits.{maxTable}
 use Rattle.client.specs.Limits.{maxID}
-use Rattle.c_interface.specs.Records.{isRecord, markFits}
-use Rattle.c_interface.specs.declared.Record.{Record}
-use Rattle.c_interface.proofs.attempts.is_record.Statement.{statement}
-use Rattle.c_interface.proofs.attempts.is_record.Tie as tie
+use Rattle.c_record.specs.Records.{isRecord, markFits}
+use Rattle.c_record.specs.declared.Record.{Record}
+use Rattle.c_record.proofs.coding.is_record.Statement.{statement}
+use Rattle.c_record.proofs.coding.is_record.Tie as tie
 
 module _ (r : Record) where
   many-entries : maxTable < r .«table_len» → false ≡ isRecord r

@@ -3,10 +3,10 @@ use mathlib.Core.Path.{_≡_, sym, ap, _∙_}
 use borrow.Author.Needs.{needs}
 use Rattle.client.specs.Step.{After, shown, stepOf}
 use Rattle.client.proofs.Steps.{any-accepted}
-use Rattle.c_interface.specs.Records.{attemptOf, leftAfter}
-use Rattle.c_interface.proofs.Records.{record-counts, step-counts}
-use Rattle.c_interface.proofs.attempts.apply.Statement.{statement}
-use Rattle.c_interface.proofs.attempts.apply.Tie as tie
+use Rattle.c_record.specs.Records.{attemptOf, leftAfter}
+use Rattle.c_record.proofs.Records.{record-counts, step-counts}
+use Rattle.c_record.proofs.attempts.apply.Statement.{statement}
+use Rattle.c_record.proofs.attempts.apply.Tie as tie
 
 stepped : (c : tie.After-step-any) →
     let g = c .before .before .before .args in

@@ -16,8 +16,8 @@ use Rattle.client.specs.declared.Attempt.{Attempt}
 use Rattle.client.specs.declared.Event.{Event}
 use Rattle.client.proofs.Blank.{step-any, reachable-counts}
 use Rattle.client.proofs.Steps.{counts-all}
-use Rattle.c_interface.specs.Records.{markFits, isRecord, attemptOf, eventOf, leftAfter, asFound, stepRecord}
-use Rattle.c_interface.specs.declared.Record.{Record}
+use Rattle.c_record.specs.Records.{markFits, isRecord, attemptOf, eventOf, leftAfter, asFound, stepRecord}
+use Rattle.c_record.specs.declared.Record.{Record}
 
 -- The number of a closed end is a byte
 pub closed-value : (mark value : ℕ) → (mark ≡ 0 → ⊥) → (mark ≡ 1 → ⊥) → markFits mark value ≡ true → value ≤ 255

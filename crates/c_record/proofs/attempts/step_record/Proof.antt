@@ -7,10 +7,10 @@ use borrow.Author.Tests.{eq-eqb, ne-eqb, not-true, not-false}
 use borrow.Author.Needs.{needs}
 use Rattle.information.specs.declared.Presence.the-variants.{Missing, Given}
 use Rattle.client.specs.declared.Event.the-variants.{Datagram, PacketProcessed, Outcome}
-use Rattle.c_interface.specs.Records.{isRecord, eventOf}
-use Rattle.c_interface.proofs.Records.{step-refused, step-known, step-unknown}
-use Rattle.c_interface.proofs.attempts.step_record.Statement.{statement}
-use Rattle.c_interface.proofs.attempts.step_record.Tie as tie
+use Rattle.c_record.specs.Records.{isRecord, eventOf}
+use Rattle.c_record.proofs.Records.{step-refused, step-known, step-unknown}
+use Rattle.c_record.proofs.attempts.step_record.Statement.{statement}
+use Rattle.c_record.proofs.attempts.step_record.Tie as tie
 
 -- The kinds of event
 module _ (k v : ℕ) where
