@@ -65,13 +65,17 @@ abbrev pub leavingPlaces : Reply Form → List ℕ → List ℕ
 leavingPlaces (refused n c) found = found
 leavingPlaces (answered form) found = formPlaces form
 
+-- Kinds by number: 0 names the first, 1 the second, another number none
+unfoldable pub named : {K : Type 0} → K → K → ℕ → Option K
+named first second n = cond (eqb n 0) (some first) (cond (eqb n 1) (some second) none)
+
 -- Senders: 0 a client, 1 a server
-unfoldable pub senderOf : ℕ → Option Sender
-senderOf n = cond (eqb n 0) (some Client) (cond (eqb n 1) (some Server) none)
+abbrev pub senderOf : ℕ → Option Sender
+senderOf n = named Client Server n
 
 -- Whether Version Information is given: 0 missing, 1 given
-unfoldable pub presenceOf : ℕ → Option Presence
-presenceOf n = cond (eqb n 0) (some Missing) (cond (eqb n 1) (some Given) none)
+abbrev pub presenceOf : ℕ → Option Presence
+presenceOf n = named Missing Given n
 
 -- Kinds of call: 0 one that reads (a reader, the server's choice, an event), else a writer
 abbrev pub callOf : ℕ → Call

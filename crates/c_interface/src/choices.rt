@@ -1,5 +1,7 @@
 // Tables, pairs and choices as numbers.
+ghost use mathlib.Core.Option.{Option.some};
 ghost use mathlib.Core.Path.{_≡_};
+ghost use Prim.Native.Nat.{_≤_};
 ghost use Rattle.versions.specs.Choice.{choose};
 ghost use Rattle.versions.specs.Pairs.{pairsKeepRule};
 ghost use Rattle.versions.specs.Table.{tableKeepsRule};
@@ -91,6 +93,17 @@ pub extern "C" fn qv_choose_from_bytes(table: &[u32], bytes: &[u8], version: &mu
     }
 }
 
+// Whether Version Information is given, by a number.
+fn presence_of(number: u32) -> Presence
+    requires { ⌜ number ≤ 1 ⌝ }
+    ensures { λ r. ⌜ some r ≡ presenceOf number ⌝ }
+{
+    if number == 0 {
+        return Presence::Missing;
+    }
+    Presence::Given
+}
+
 // The server's choice after a first flight in `version`; `presence` is 0 for missing information, 1 for given. Refusals:
 // 255 (another presence), 41, 43, 31 to 36, 51, which leave `decision` as found; else 0, and `decision` is the version
 // to use, or 0 to send a Version Negotiation packet.
@@ -107,45 +120,11 @@ pub extern "C" fn qv_server_choice(
     ensures answer { λ r. ⌜ r ≡ returned (forKnown (λ p. decide (now (readable .entry)) (now (accepted .entry)) (now (pairs .entry)) version p (now (information .entry))) (presenceOf presence)) ⌝ }
     ensures left { λ _. ⌜ now (decision .exit) ≡ leaving actNumber (forKnown (λ p. decide (now (readable .entry)) (now (accepted .entry)) (now (pairs .entry)) version p (now (information .entry))) (presenceOf presence)) (now (decision .entry)) ⌝ }
 {
-    if presence == 0 {
-        return choice_with(
-            readable,
-            accepted,
-            pairs,
-            version,
-            Presence::Missing,
-            information,
-            decision,
-        );
+    if 1 < presence {
+        return NOT_VALID;
     }
-    if presence == 1 {
-        return choice_with(
-            readable,
-            accepted,
-            pairs,
-            version,
-            Presence::Given,
-            information,
-            decision,
-        );
-    }
-    NOT_VALID
-}
-
-// The server's choice with Version Information that is known to be missing or given.
-fn choice_with(
-    readable: &[u32],
-    accepted: &[u32],
-    pairs: &[[u32; 2]],
-    version: u32,
-    presence: Presence,
-    information: &[u8],
-    decision: &mut u32,
-) -> u32
-    ensures answer { λ r. ⌜ r ≡ returned (decide (now (readable .entry)) (now (accepted .entry)) (now (pairs .entry)) version presence (now (information .entry))) ⌝ }
-    ensures left { λ _. ⌜ now (decision .exit) ≡ leaving actNumber (decide (now (readable .entry)) (now (accepted .entry)) (now (pairs .entry)) version presence (now (information .entry))) (now (decision .entry)) ⌝ }
-{
-    match choose_after_first_flight(readable, accepted, pairs, version, presence, information) {
+    let given = presence_of(presence);
+    match choose_after_first_flight(readable, accepted, pairs, version, given, information) {
         Decision::Refused(refusal) => refusal.0 as u32,
         Decision::Negotiate => {
             *decision = 0;

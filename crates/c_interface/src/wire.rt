@@ -1,6 +1,8 @@
 // Headers, Version Negotiation packets and Version Information as numbers and buffers.
 ghost use mathlib.Core.List.{[], _∷_};
+ghost use mathlib.Core.Option.{Option.some};
 ghost use mathlib.Core.Path.{_≡_};
+ghost use Prim.Native.Nat.{_≤_};
 ghost use lib.ListN.{length};
 ghost use Rattle.refusals.specs.Written.{leaves};
 ghost use Rattle.invariants.specs.Header.{readHeader};
@@ -106,6 +108,17 @@ pub extern "C" fn qv_write_version_negotiation(
     }
 }
 
+// The sender that a number names.
+fn sender_of(number: u32) -> Sender
+    requires { ⌜ number ≤ 1 ⌝ }
+    ensures { λ r. ⌜ some r ≡ senderOf number ⌝ }
+{
+    if number == 0 {
+        return Sender::Client;
+    }
+    Sender::Server
+}
+
 // Reads Version Information; `sender` is 0 for a client's, 1 for a server's. Refusals: 255 (another sender), 31 to 36,
 // which leave all as found; else 0, the Chosen Version, and where the Available Versions lie.
 #[no_mangle]
@@ -121,29 +134,10 @@ pub extern "C" fn qv_read_information(
     ensures start { λ _. ⌜ now (start .exit) ≡ leaving startIn (forKnown (λ s. readInformation s (now (bytes .entry))) (senderOf sender)) (now (start .entry)) ⌝ }
     ensures end { λ _. ⌜ now (end .exit) ≡ leaving endIn (forKnown (λ s. readInformation s (now (bytes .entry))) (senderOf sender)) (now (end .entry)) ⌝ }
 {
-    if sender == 0 {
-        return read_as(Sender::Client, bytes, chosen, start, end);
+    if 1 < sender {
+        return NOT_VALID;
     }
-    if sender == 1 {
-        return read_as(Sender::Server, bytes, chosen, start, end);
-    }
-    NOT_VALID
-}
-
-// Reads the Version Information of a known sender.
-fn read_as(
-    sender: Sender,
-    bytes: &[u8],
-    chosen: &mut u32,
-    start: &mut usize,
-    end: &mut usize,
-) -> u32
-    ensures answer { λ r. ⌜ r ≡ returned (readInformation sender (now (bytes .entry))) ⌝ }
-    ensures chosen { λ _. ⌜ now (chosen .exit) ≡ leaving chosenIn (readInformation sender (now (bytes .entry))) (now (chosen .entry)) ⌝ }
-    ensures start { λ _. ⌜ now (start .exit) ≡ leaving startIn (readInformation sender (now (bytes .entry))) (now (start .entry)) ⌝ }
-    ensures end { λ _. ⌜ now (end .exit) ≡ leaving endIn (readInformation sender (now (bytes .entry))) (now (end .entry)) ⌝ }
-{
-    match read_information(sender, bytes) {
+    match read_information(sender_of(sender), bytes) {
         Information::Refused(refusal) => refusal.0 as u32,
         Information::Read {
             chosen: version,
@@ -171,28 +165,10 @@ pub extern "C" fn qv_write_information(
     ensures left { λ _. ⌜ now (buffer .exit) ≡ leaves (forKnown (λ s. informationToWrite s chosen (now (available .entry)) (length (now (buffer .entry)))) (senderOf sender)) (now (buffer .entry)) ⌝ }
     ensures counted { λ _. ⌜ now (count .exit) ≡ leaving length (forKnown (λ s. informationToWrite s chosen (now (available .entry)) (length (now (buffer .entry)))) (senderOf sender)) (now (count .entry)) ⌝ }
 {
-    if sender == 0 {
-        return write_as(Sender::Client, chosen, available, buffer, count);
+    if 1 < sender {
+        return NOT_VALID;
     }
-    if sender == 1 {
-        return write_as(Sender::Server, chosen, available, buffer, count);
-    }
-    NOT_VALID
-}
-
-// Writes the Version Information of a known sender.
-fn write_as(
-    sender: Sender,
-    chosen: u32,
-    available: &[u32],
-    buffer: &mut [u8],
-    count: &mut usize,
-) -> u32
-    ensures answer { λ r. ⌜ r ≡ returned (informationToWrite sender chosen (now (available .entry)) (length (now (buffer .entry)))) ⌝ }
-    ensures left { λ _. ⌜ now (buffer .exit) ≡ leaves (informationToWrite sender chosen (now (available .entry)) (length (now (buffer .entry)))) (now (buffer .entry)) ⌝ }
-    ensures counted { λ _. ⌜ now (count .exit) ≡ leaving length (informationToWrite sender chosen (now (available .entry)) (length (now (buffer .entry)))) (now (count .entry)) ⌝ }
-{
-    match write_information(sender, chosen, available, buffer) {
+    match write_information(sender_of(sender), chosen, available, buffer) {
         Written::Refused(refusal) => refusal.0 as u32,
         Written::Count(information_length) => {
             *count = information_length;

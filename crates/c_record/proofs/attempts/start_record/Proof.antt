@@ -1,17 +1,12 @@
 -- `start_record` meets its contract: what `start` hands back, as a record.
 use mathlib.Core.Path.{ap}
 use borrow.Author.Needs.{needs}
-use Rattle.client.specs.Start.{Input, Start, inputOf}
+use Rattle.client.specs.Start.{Start}
 use Rattle.c_record.specs.Numbers.{refusalOf}
 use Rattle.c_record.specs.Records.{Left, recordOf}
 use Rattle.c_record.proofs.Records.{start-counts}
 use Rattle.c_record.proofs.attempts.start_record.Statement.{statement}
 use Rattle.c_record.proofs.attempts.start_record.Tie as tie
-
-abbrev told : tie.After-start → Input
-told c =
-    let g = c .before .before .before .before .args in
-    inputOf (g .table .now) (g .pairs .now) (g .original) (g .destination .now) (g .source .now)
 
 abbrev startLeft : Start → Left
 startLeft s = record { left = recordOf (s .attempt); refusal = refusalOf (s .reply) }
@@ -20,7 +15,7 @@ start-requires : tie.Need-start-requires
 start-requires c κs = search needs
 
 encode-requires : tie.Need-encode-requires
-encode-requires c κs = rw (ap (λ (s : Start). s .attempt) (c .before .start .ensures .0)) (start-counts (told (c .before)))
+encode-requires c κs = rw (ap (λ (s : Start). s .attempt) (c .before .start .ensures .0)) (start-counts _)
 
 start-number-requires : tie.Need-start-number-requires
 start-number-requires c κs = search needs
