@@ -77,7 +77,11 @@ fn apply(held: Record, event: Event, bytes: &[u8]) -> RecordAndRefusal
     }
 }
 
-// One event, by value: the record that it leaves, and its refusal.
+// One event: the record that it leaves, and the number of its refusal, 0 for none. `kind` is 0 for a datagram, 1 for a
+// processed packet, 2 for an outcome with information given, 3 for one with it missing; `value` is an outcome's version
+// in use. Refusals, in order: 255 for a record that no attempt has or another kind, which leaves the record as found;
+// a datagram: 61, 62, 63, 64, unchanged, and 65, which ends the attempt; a processed packet: 62, unchanged;
+// an outcome: 62, unchanged, and 31 to 35, 71 to 75, which end the attempt.
 pub fn step_record(held: Record, kind: u32, value: u32, bytes: &[u8]) -> RecordAndRefusal
     ensures { λ r. ⌜ shownLeft r ≡ stepRecord held kind value (now (bytes .entry)) ⌝ }
 {

@@ -65,7 +65,7 @@ fn mark_fits(mark: u32, value: u32) -> bool
     false
 }
 
-// Whether counts, flags and marks are those that an attempt has.
+// Whether counts, flags and marks are those that an attempt has. It refuses nothing.
 pub fn is_record(held: Record) -> bool
     ensures { λ r. ⌜ r ≡ isRecord held ⌝ }
 {
