@@ -5,19 +5,19 @@ use mathlib.Core.Path.{_≡_, refl, ap, _∙_}
 use lib.ListN.{length}
 use Rattle.refusals.specs.Reply.{Reply, Reply.refused, Reply.answered}
 use Rattle.refusals.specs.Written.{counted}
-use Rattle.c_interface.specs.Numbers.{refusalOf, leaving, itself}
+use Rattle.c_interface.specs.Numbers.{returned, leaving, itself}
 
-refusal-counted : (owed : Reply (List ℕ)) → refusalOf (counted owed) ≡ refusalOf owed
-refusal-counted (refused n c) = refl
-refusal-counted (answered bytes) = refl
+returned-counted : (owed : Reply (List ℕ)) → returned (counted owed) ≡ returned owed
+returned-counted (refused n c) = refl
+returned-counted (answered bytes) = refl
 
 count-left : (owed : Reply (List ℕ)) (found : ℕ) → leaving itself (counted owed) found ≡ leaving length owed found
 count-left (refused n c) found = refl
 count-left (answered bytes) found = refl
 
-pub written-refusal :
-    (owed : Reply (List ℕ)) {reply : Reply ℕ} → reply ≡ counted owed → refusalOf reply ≡ refusalOf owed
-written-refusal owed e = ap refusalOf e ∙ refusal-counted owed
+pub written-returned :
+    (owed : Reply (List ℕ)) {reply : Reply ℕ} → reply ≡ counted owed → returned reply ≡ returned owed
+written-returned owed e = ap returned e ∙ returned-counted owed
 
 pub written-count :
     (owed : Reply (List ℕ)) (found : ℕ) {reply : Reply ℕ} →

@@ -1,6 +1,6 @@
 -- Answers as numbers. A refusal is its number, 0 is none; a value goes into a lent number, which a refusal leaves.
 use Prim.Native.Nat.{ℕ}
-use mathlib.Core.Bool.{Bool, true, false, cond}
+use mathlib.Core.Bool.{cond}
 use mathlib.Core.List.{List, [], _∷_}
 use mathlib.Core.Option.{Option, Option.none, Option.some}
 use lib.Dec.{eqb}
@@ -14,32 +14,20 @@ use Rattle.information.specs.Information.{Found}
 use Rattle.information.specs.declared.Presence.{Presence}
 use Rattle.information.specs.declared.Presence.the-variants.{Missing, Given}
 use Rattle.information.specs.declared.Sender.{Sender}
-use Rattle.server.specs.FirstFlight.{Act, Act.negotiate, Act.use-version}
 use Rattle.information.specs.declared.Sender.the-variants.{Client, Server}
-
--- The number for what no caller may hand over
-abbrev pub notValid : ℕ
-notValid = 255
-
-abbrev pub interfaceVersion : ℕ
-interfaceVersion = 1
+use Rattle.server.specs.FirstFlight.{Act, Act.negotiate, Act.use-version}
+use Rattle.c_record.specs.Numbers.{notValid, refusalOf}
 
 abbrev pub closeNumber : Close → ℕ
 closeNumber Nothing = 0
 closeNumber (With code) = code
 
--- A test as a number
-abbrev pub flag : Bool → ℕ
-flag false = 0
-flag true = 1
+-- What a function returns for an answer: the number of its refusal, 0 where there is none
+abbrev pub returned : {A : Type 0} → Reply A → ℕ
+returned reply = refusalOf reply
 
--- The number of a refusal, 0 where there is none
-abbrev pub refusalOf : {A : Type 0} → Reply A → ℕ
-refusalOf (refused n c) = n
-refusalOf (answered a) = 0
-
--- What a lent place holds after an answer: what is read off its value, or, after a refusal, what it held
-abbrev pub leaving : {A B : Type 0} → (A → B) → Reply A → B → B
+-- What a lent number holds after an answer: what is read off its value, or, after a refusal, what it held
+abbrev pub leaving : {A : Type 0} → (A → ℕ) → Reply A → ℕ → ℕ
 leaving value (refused n c) found = found
 leaving value (answered a) found = value a
 
@@ -72,13 +60,22 @@ formPlaces (long v d s r) = d .start ∷ d .end ∷ s .start ∷ s .end ∷ r .s
 formPlaces (short d r) = d .start ∷ d .end ∷ 0 ∷ 0 ∷ r .start ∷ r .end ∷ []
 formPlaces (versionNegotiation d s l) = d .start ∷ d .end ∷ s .start ∷ s .end ∷ l .start ∷ l .end ∷ []
 
+-- What the lent places of a header hold after an answer
+abbrev pub leavingPlaces : Reply Form → List ℕ → List ℕ
+leavingPlaces (refused n c) found = found
+leavingPlaces (answered form) found = formPlaces form
+
+-- Kinds by number: 0 names the first, 1 the second, another number none
+unfoldable pub named : {K : Type 0} → K → K → ℕ → Option K
+named first second n = cond (eqb n 0) (some first) (cond (eqb n 1) (some second) none)
+
 -- Senders: 0 a client, 1 a server
-unfoldable pub senderOf : ℕ → Option Sender
-senderOf n = cond (eqb n 0) (some Client) (cond (eqb n 1) (some Server) none)
+abbrev pub senderOf : ℕ → Option Sender
+senderOf n = named Client Server n
 
 -- Whether Version Information is given: 0 missing, 1 given
-unfoldable pub presenceOf : ℕ → Option Presence
-presenceOf n = cond (eqb n 0) (some Missing) (cond (eqb n 1) (some Given) none)
+abbrev pub presenceOf : ℕ → Option Presence
+presenceOf n = named Missing Given n
 
 -- Kinds of call: 0 one that reads (a reader, the server's choice, an event), else a writer
 abbrev pub callOf : ℕ → Call

@@ -1,227 +1,23 @@
-// The attempt: its record without enums, the start, the events, the own list.
-ghost use mathlib.Core.Bool.{true, cond};
+// The attempt over its record without enums: the start, the events, the own list; the record's layout.
+ghost use mathlib.Core.Bool.{cond};
 ghost use mathlib.Core.Path.{_≡_};
 ghost use lib.ListN.{length};
 ghost use Rattle.versions.specs.Limits.{maxTable};
 ghost use Rattle.attempt.specs.Attempt.{ownOf, padded};
-ghost use Rattle.attempt.specs.Start.{inputOf, startReply};
-ghost use Rattle.attempt.specs.Step.{countsFit, stepOf, answerReply};
-ghost use Rattle.c_interface.specs.Numbers.{flag, notValid, refusalOf};
-ghost use Rattle.c_interface.specs.Records.{isRecord, markFits, attemptOf, recordOf, endOf, markOf, markValue, leftAfter, stepRecord, startRecord, knownRecord, recordSize, shownLeft};
-use crate::NOT_VALID;
+ghost use Rattle.attempt.specs.Start.{inputOf};
+ghost use Rattle.c_record.specs.Numbers.{notValid};
+ghost use Rattle.c_record.specs.Records.{isRecord, attemptOf, stepRecord, startRecord, shownLeft};
+ghost use Rattle.c_interface.specs.Layout.{knownRecord, recordSize};
 use crate::RECORD_SIZE;
-use crate::Record;
-use crate::RecordAndRefusal;
-use attempt::Answer;
-use attempt::Attempt;
-use attempt::End;
-use attempt::Event;
 use attempt::MAX_ID;
-use attempt::StartAnswer;
-use attempt::own::own_list;
-use client::stepping::step_any;
-use client_start::start;
-use information::Presence;
+use c_record::NOT_VALID;
+use c_record::Record;
+use c_record::RecordAndRefusal;
+use c_record::attempts::own_of;
+use c_record::attempts::start_record;
+use c_record::attempts::step_record;
+use c_record::coding::is_record;
 use versions::MAX_TABLE;
-
-// How an attempt ended, by its mark.
-fn end_of(mark: u32, value: u32) -> End
-    requires { ⌜ markFits mark value ≡ true ⌝ }
-    ensures { λ r. ⌜ r ≡ endOf mark value ⌝ }
-{
-    if mark == 0 {
-        return End::Open;
-    }
-    if mark == 1 {
-        return End::Completed(value);
-    }
-    End::Closed(value as u8)
-}
-
-fn mark_of(end: End) -> u32
-    ensures { λ r. ⌜ r ≡ markOf end ⌝ }
-{
-    match end {
-        End::Open => 0,
-        End::Completed(_) => 1,
-        End::Closed(_) => 2,
-    }
-}
-
-fn value_of(end: End) -> u32
-    ensures { λ r. ⌜ r ≡ markValue end ⌝ }
-{
-    match end {
-        End::Open => 0,
-        End::Completed(version) => version,
-        End::Closed(number) => number as u32,
-    }
-}
-
-fn flag_of(set: bool) -> u32
-    ensures { λ r. ⌜ r ≡ flag set ⌝ }
-{
-    if set { 1 } else { 0 }
-}
-
-fn mark_fits(mark: u32, value: u32) -> bool
-    ensures { λ r. ⌜ r ≡ markFits mark value ⌝ }
-{
-    if mark == 0 {
-        return value == 0;
-    }
-    if mark == 1 {
-        return true;
-    }
-    if mark == 2 {
-        return value <= 255;
-    }
-    false
-}
-
-// Whether counts, flags and marks are those that an attempt has.
-fn is_record(held: Record) -> bool
-    ensures { λ r. ⌜ r ≡ isRecord held ⌝ }
-{
-    if MAX_TABLE < held.table_len as usize {
-        return false;
-    }
-    if MAX_ID < held.destination_len as usize {
-        return false;
-    }
-    if MAX_ID < held.source_len as usize {
-        return false;
-    }
-    if 1 < held.acted {
-        return false;
-    }
-    if 1 < held.heard {
-        return false;
-    }
-    if !mark_fits(held.end_mark, held.end_value) {
-        return false;
-    }
-    held.unused == 0
-}
-
-fn decode(held: Record) -> Attempt
-    requires { ⌜ isRecord held ≡ true ⌝ }
-    ensures { λ r. ⌜ r ≡ attemptOf held ⌝ }
-{
-    let table = held.table;
-    let rows = held.rows;
-    let destination = held.destination;
-    let source = held.source;
-    let end = end_of(held.end_mark, held.end_value);
-    Attempt {
-        table,
-        table_len: held.table_len as usize,
-        rows,
-        destination,
-        destination_len: held.destination_len as usize,
-        source,
-        source_len: held.source_len as usize,
-        original: held.original,
-        attempted: held.attempted,
-        acted: held.acted == 1,
-        heard: held.heard == 1,
-        end,
-    }
-}
-
-fn encode(attempt: Attempt) -> Record
-    requires { ⌜ countsFit attempt ≡ true ⌝ }
-    ensures { λ r. ⌜ r ≡ recordOf attempt ⌝ }
-{
-    let table = attempt.table;
-    let rows = attempt.rows;
-    let destination = attempt.destination;
-    let source = attempt.source;
-    let end = attempt.end;
-    let mark = mark_of(end);
-    let value = value_of(end);
-    let acted = flag_of(attempt.acted);
-    let heard = flag_of(attempt.heard);
-    Record {
-        rows,
-        table,
-        destination,
-        source,
-        table_len: attempt.table_len as u32,
-        destination_len: attempt.destination_len as u32,
-        source_len: attempt.source_len as u32,
-        original: attempt.original,
-        attempted: attempt.attempted,
-        acted,
-        heard,
-        end_mark: mark,
-        end_value: value,
-        unused: 0,
-    }
-}
-
-// The number of an event's refusal, 0 for none.
-fn refusal_number(answer: Answer) -> u32
-    ensures { λ r. ⌜ r ≡ refusalOf (answerReply answer) ⌝ }
-{
-    match answer {
-        Answer::Refused(refusal) => refusal.0 as u32,
-        Answer::Acted(_) => 0,
-        Answer::Noted => 0,
-        Answer::Completed(_) => 0,
-    }
-}
-
-// One event on a record that is one.
-fn apply(held: Record, event: Event, bytes: &[u8]) -> RecordAndRefusal
-    requires { ⌜ isRecord held ≡ true ⌝ }
-    ensures { λ r. ⌜ shownLeft r ≡ leftAfter (stepOf (attemptOf held) event (now (bytes .entry))) ⌝ }
-{
-    let stepped = step_any(decode(held), event, bytes);
-    let attempt = stepped.attempt;
-    let answer = stepped.answer;
-    let left = encode(attempt);
-    RecordAndRefusal {
-        attempt: left,
-        refusal: refusal_number(answer),
-    }
-}
-
-// One event, by value: the record that it leaves, and its refusal.
-pub(crate) fn step_record(held: Record, kind: u32, value: u32, bytes: &[u8]) -> RecordAndRefusal
-    ensures { λ r. ⌜ shownLeft r ≡ stepRecord held kind value (now (bytes .entry)) ⌝ }
-{
-    if !is_record(held) {
-        return RecordAndRefusal {
-            attempt: held,
-            refusal: NOT_VALID,
-        };
-    }
-    if kind == 0 {
-        return apply(held, Event::Datagram, bytes);
-    }
-    if kind == 1 {
-        return apply(held, Event::PacketProcessed, bytes);
-    }
-    if kind == 2 {
-        let given = Event::Outcome {
-            in_use: value,
-            information: Presence::Given,
-        };
-        return apply(held, given, bytes);
-    }
-    if kind == 3 {
-        let missing = Event::Outcome {
-            in_use: value,
-            information: Presence::Missing,
-        };
-        return apply(held, missing, bytes);
-    }
-    RecordAndRefusal {
-        attempt: held,
-        refusal: NOT_VALID,
-    }
-}
 
 // One event in place. `kind` is 0 for a datagram, 1 for a processed packet, 2 for an outcome with information given,
 // 3 for one with it missing; `value` is the version in use of an outcome. `bytes` is the datagram, or the information
@@ -239,15 +35,6 @@ pub extern "C" fn qv_event(held: &mut Record, kind: u32, value: u32, bytes: &[u8
     out.refusal
 }
 
-fn start_number(answer: StartAnswer) -> u32
-    ensures { λ r. ⌜ r ≡ refusalOf (startReply answer) ⌝ }
-{
-    match answer {
-        StartAnswer::Refused(refusal) => refusal.0 as u32,
-        StartAnswer::Opened => 0,
-    }
-}
-
 // Starts an attempt: its record and 0; or 41, 43, 44, 45, with a record that is no attempt.
 #[no_mangle]
 pub extern "C" fn qv_start(
@@ -259,14 +46,7 @@ pub extern "C" fn qv_start(
 ) -> RecordAndRefusal
     ensures { λ r. ⌜ shownLeft r ≡ startRecord (inputOf (now (table .entry)) (now (pairs .entry)) original (now (destination .entry)) (now (source .entry))) ⌝ }
 {
-    let started = start(table, pairs, original, destination, source);
-    let attempt = started.attempt;
-    let answer = started.answer;
-    let opened = encode(attempt);
-    RecordAndRefusal {
-        attempt: opened,
-        refusal: start_number(answer),
-    }
+    start_record(table, pairs, original, destination, source)
 }
 
 // The own list of an attempt, for the client's Version Information: its versions and their count. Refusal: 255 for a
@@ -284,7 +64,7 @@ pub extern "C" fn qv_own_list(
     if !is_record(held) {
         return NOT_VALID;
     }
-    let own = own_list(decode(held));
+    let own = own_of(held);
     let list = own.versions;
     *versions = list;
     *count = own.count;

@@ -1,13 +1,16 @@
 // Tables, pairs and choices as numbers.
+ghost use mathlib.Core.Option.{Option.some};
 ghost use mathlib.Core.Path.{_≡_};
+ghost use Prim.Native.Nat.{_≤_};
 ghost use Rattle.versions.specs.Choice.{choose};
 ghost use Rattle.versions.specs.Pairs.{pairsKeepRule};
 ghost use Rattle.versions.specs.Table.{tableKeepsRule};
 ghost use Rattle.versions.specs.Version.{reserved};
 ghost use Rattle.versions.specs.Wire.{entries, entryAt};
 ghost use Rattle.server.specs.FirstFlight.{decide};
-ghost use Rattle.c_interface.specs.Numbers.{flag, refusalOf, leaving, itself, isThere, valueOr, presenceOf, forKnown, actNumber};
-use crate::NOT_VALID;
+ghost use Rattle.c_record.specs.Numbers.{flag};
+ghost use Rattle.c_interface.specs.Numbers.{returned, leaving, itself, isThere, valueOr, presenceOf, forKnown, actNumber};
+use c_record::NOT_VALID;
 use choosing::choose_from;
 use choosing::choose_from_bytes;
 use information::Presence;
@@ -63,7 +66,7 @@ pub extern "C" fn qv_entry(list: &[u8], place: usize, version: &mut u32) -> u32
 // The choice from a list: 40, 41, 42, which leave `version` as found; else 0 and the chosen version.
 #[no_mangle]
 pub extern "C" fn qv_choose(table: &[u32], list: &[u32], version: &mut u32) -> u32
-    ensures answer { λ r. ⌜ r ≡ refusalOf (choose (now (table .entry)) (now (list .entry))) ⌝ }
+    ensures answer { λ r. ⌜ r ≡ returned (choose (now (table .entry)) (now (list .entry))) ⌝ }
     ensures left { λ _. ⌜ now (version .exit) ≡ leaving itself (choose (now (table .entry)) (now (list .entry))) (now (version .entry)) ⌝ }
 {
     match choose_from(table, list) {
@@ -78,7 +81,7 @@ pub extern "C" fn qv_choose(table: &[u32], list: &[u32], version: &mut u32) -> u
 // The choice from a list as it lies on the wire. Refusals as `qv_choose`'s.
 #[no_mangle]
 pub extern "C" fn qv_choose_from_bytes(table: &[u32], bytes: &[u8], version: &mut u32) -> u32
-    ensures answer { λ r. ⌜ r ≡ refusalOf (choose (now (table .entry)) (entries (now (bytes .entry)))) ⌝ }
+    ensures answer { λ r. ⌜ r ≡ returned (choose (now (table .entry)) (entries (now (bytes .entry)))) ⌝ }
     ensures left { λ _. ⌜ now (version .exit) ≡ leaving itself (choose (now (table .entry)) (entries (now (bytes .entry)))) (now (version .entry)) ⌝ }
 {
     match choose_from_bytes(table, bytes) {
@@ -88,6 +91,17 @@ pub extern "C" fn qv_choose_from_bytes(table: &[u32], bytes: &[u8], version: &mu
             0
         }
     }
+}
+
+// Whether Version Information is given, by a number.
+fn presence_of(number: u32) -> Presence
+    requires { ⌜ number ≤ 1 ⌝ }
+    ensures { λ r. ⌜ some r ≡ presenceOf number ⌝ }
+{
+    if number == 0 {
+        return Presence::Missing;
+    }
+    Presence::Given
 }
 
 // The server's choice after a first flight in `version`; `presence` is 0 for missing information, 1 for given. Refusals:
@@ -103,48 +117,14 @@ pub extern "C" fn qv_server_choice(
     information: &[u8],
     decision: &mut u32,
 ) -> u32
-    ensures answer { λ r. ⌜ r ≡ refusalOf (forKnown (λ p. decide (now (readable .entry)) (now (accepted .entry)) (now (pairs .entry)) version p (now (information .entry))) (presenceOf presence)) ⌝ }
+    ensures answer { λ r. ⌜ r ≡ returned (forKnown (λ p. decide (now (readable .entry)) (now (accepted .entry)) (now (pairs .entry)) version p (now (information .entry))) (presenceOf presence)) ⌝ }
     ensures left { λ _. ⌜ now (decision .exit) ≡ leaving actNumber (forKnown (λ p. decide (now (readable .entry)) (now (accepted .entry)) (now (pairs .entry)) version p (now (information .entry))) (presenceOf presence)) (now (decision .entry)) ⌝ }
 {
-    if presence == 0 {
-        return choice_with(
-            readable,
-            accepted,
-            pairs,
-            version,
-            Presence::Missing,
-            information,
-            decision,
-        );
+    if 1 < presence {
+        return NOT_VALID;
     }
-    if presence == 1 {
-        return choice_with(
-            readable,
-            accepted,
-            pairs,
-            version,
-            Presence::Given,
-            information,
-            decision,
-        );
-    }
-    NOT_VALID
-}
-
-// The server's choice with Version Information that is known to be missing or given.
-fn choice_with(
-    readable: &[u32],
-    accepted: &[u32],
-    pairs: &[[u32; 2]],
-    version: u32,
-    presence: Presence,
-    information: &[u8],
-    decision: &mut u32,
-) -> u32
-    ensures answer { λ r. ⌜ r ≡ refusalOf (decide (now (readable .entry)) (now (accepted .entry)) (now (pairs .entry)) version presence (now (information .entry))) ⌝ }
-    ensures left { λ _. ⌜ now (decision .exit) ≡ leaving actNumber (decide (now (readable .entry)) (now (accepted .entry)) (now (pairs .entry)) version presence (now (information .entry))) (now (decision .entry)) ⌝ }
-{
-    match choose_after_first_flight(readable, accepted, pairs, version, presence, information) {
+    let given = presence_of(presence);
+    match choose_after_first_flight(readable, accepted, pairs, version, given, information) {
         Decision::Refused(refusal) => refusal.0 as u32,
         Decision::Negotiate => {
             *decision = 0;

@@ -3,56 +3,21 @@
 // requires anything: an unknown kind, mark or flag, or an impossible count, gets 255 and leaves all as found.
 ghost use mathlib.Core.Path.{_≡_};
 ghost use Rattle.refusals.specs.Close.{closeOf};
-ghost use Rattle.c_interface.specs.Numbers.{closeNumber, callOf, interfaceVersion};
+ghost use Rattle.c_interface.specs.Layout.{interfaceVersion};
+ghost use Rattle.c_interface.specs.Numbers.{closeNumber, callOf};
 
 pub mod attempts; // the attempt: start, events, own list
 pub mod choices; // tables, pairs and choices
 pub mod wire; // headers, packets, Version Information
 
-use attempt::MAX_ID;
 use refusals::Call;
 use refusals::Close;
 use refusals::Refusal;
-use versions::MAX_TABLE;
 
-// The number for what no caller may hand over, outside document 01's table.
-pub const NOT_VALID: u32 = 255;
 // The version of this interface; it changes with every function or record that changes.
 pub const INTERFACE_VERSION: u32 = 1;
 // The size of the record in bytes.
 pub const RECORD_SIZE: usize = 272;
-
-// The record of an attempt. Fixed-width fields and no padding: 272 bytes.
-#[repr(C)]
-pub struct Record {
-    // Bit j of row i: entry j may be answered when entry i is attempted.
-    pub rows: [u64; MAX_TABLE],
-    pub table: [u32; MAX_TABLE],
-    pub destination: [u8; MAX_ID],
-    pub source: [u8; MAX_ID],
-    pub table_len: u32,
-    pub destination_len: u32,
-    pub source_len: u32,
-    pub original: u32,
-    pub attempted: u32,
-    // 0 or 1.
-    pub acted: u32,
-    // 0 or 1.
-    pub heard: u32,
-    // 0 open, 1 completed, 2 closed.
-    pub end_mark: u32,
-    // 0; the version in use; document 01's number.
-    pub end_value: u32,
-    // 0.
-    pub unused: u32,
-}
-
-// A record with the number of a refusal, 0 for none.
-#[repr(C)]
-pub struct RecordAndRefusal {
-    pub attempt: Record,
-    pub refusal: u32,
-}
 
 #[no_mangle]
 pub extern "C" fn qv_interface_version() -> u32

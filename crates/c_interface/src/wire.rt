@@ -1,13 +1,15 @@
 // Headers, Version Negotiation packets and Version Information as numbers and buffers.
 ghost use mathlib.Core.List.{[], _∷_};
+ghost use mathlib.Core.Option.{Option.some};
 ghost use mathlib.Core.Path.{_≡_};
+ghost use Prim.Native.Nat.{_≤_};
 ghost use lib.ListN.{length};
 ghost use Rattle.refusals.specs.Written.{leaves};
 ghost use Rattle.invariants.specs.Header.{readHeader};
 ghost use Rattle.invariants.specs.Packet.{negotiationPacket};
 ghost use Rattle.information.specs.Information.{readInformation, informationToWrite};
-ghost use Rattle.c_interface.specs.Numbers.{refusalOf, leaving, formNumber, formVersion, formPlaces, senderOf, forKnown, chosenIn, startIn, endIn};
-use crate::NOT_VALID;
+ghost use Rattle.c_interface.specs.Numbers.{returned, leaving, formNumber, formVersion, leavingPlaces, senderOf, forKnown, chosenIn, startIn, endIn};
+use c_record::NOT_VALID;
 use information::Information;
 use information::Sender;
 use information::read_information;
@@ -29,10 +31,10 @@ pub extern "C" fn qv_read_header(
     version: &mut u32,
     places: &mut [usize; 6],
 ) -> u32
-    ensures answer { λ r. ⌜ r ≡ refusalOf (readHeader (now (datagram .entry)) told) ⌝ }
+    ensures answer { λ r. ⌜ r ≡ returned (readHeader (now (datagram .entry)) told) ⌝ }
     ensures form { λ _. ⌜ now (form .exit) ≡ leaving formNumber (readHeader (now (datagram .entry)) told) (now (form .entry)) ⌝ }
     ensures version { λ _. ⌜ now (version .exit) ≡ leaving formVersion (readHeader (now (datagram .entry)) told) (now (version .entry)) ⌝ }
-    ensures places { λ _. ⌜ now (places .exit) ≡ leaving formPlaces (readHeader (now (datagram .entry)) told) (now (places .entry)) ⌝ }
+    ensures places { λ _. ⌜ now (places .exit) ≡ leavingPlaces (readHeader (now (datagram .entry)) told) (now (places .entry)) ⌝ }
 {
     match read_header(datagram, told) {
         Header::Refused(refusal) => refusal.0 as u32,
@@ -93,7 +95,7 @@ pub extern "C" fn qv_write_version_negotiation(
     buffer: &mut [u8],
     count: &mut usize,
 ) -> u32
-    ensures answer { λ r. ⌜ r ≡ refusalOf (negotiationPacket (now (received .entry)) (now (offered .entry)) «unused_bits» (length (now (buffer .entry)))) ⌝ }
+    ensures answer { λ r. ⌜ r ≡ returned (negotiationPacket (now (received .entry)) (now (offered .entry)) «unused_bits» (length (now (buffer .entry)))) ⌝ }
     ensures left { λ _. ⌜ now (buffer .exit) ≡ leaves (negotiationPacket (now (received .entry)) (now (offered .entry)) «unused_bits» (length (now (buffer .entry)))) (now (buffer .entry)) ⌝ }
     ensures counted { λ _. ⌜ now (count .exit) ≡ leaving length (negotiationPacket (now (received .entry)) (now (offered .entry)) «unused_bits» (length (now (buffer .entry)))) (now (count .entry)) ⌝ }
 {
@@ -106,6 +108,17 @@ pub extern "C" fn qv_write_version_negotiation(
     }
 }
 
+// The sender that a number names.
+fn sender_of(number: u32) -> Sender
+    requires { ⌜ number ≤ 1 ⌝ }
+    ensures { λ r. ⌜ some r ≡ senderOf number ⌝ }
+{
+    if number == 0 {
+        return Sender::Client;
+    }
+    Sender::Server
+}
+
 // Reads Version Information; `sender` is 0 for a client's, 1 for a server's. Refusals: 255 (another sender), 31 to 36,
 // which leave all as found; else 0, the Chosen Version, and where the Available Versions lie.
 #[no_mangle]
@@ -116,34 +129,15 @@ pub extern "C" fn qv_read_information(
     start: &mut usize,
     end: &mut usize,
 ) -> u32
-    ensures answer { λ r. ⌜ r ≡ refusalOf (forKnown (λ s. readInformation s (now (bytes .entry))) (senderOf sender)) ⌝ }
+    ensures answer { λ r. ⌜ r ≡ returned (forKnown (λ s. readInformation s (now (bytes .entry))) (senderOf sender)) ⌝ }
     ensures chosen { λ _. ⌜ now (chosen .exit) ≡ leaving chosenIn (forKnown (λ s. readInformation s (now (bytes .entry))) (senderOf sender)) (now (chosen .entry)) ⌝ }
     ensures start { λ _. ⌜ now (start .exit) ≡ leaving startIn (forKnown (λ s. readInformation s (now (bytes .entry))) (senderOf sender)) (now (start .entry)) ⌝ }
     ensures end { λ _. ⌜ now (end .exit) ≡ leaving endIn (forKnown (λ s. readInformation s (now (bytes .entry))) (senderOf sender)) (now (end .entry)) ⌝ }
 {
-    if sender == 0 {
-        return read_as(Sender::Client, bytes, chosen, start, end);
+    if 1 < sender {
+        return NOT_VALID;
     }
-    if sender == 1 {
-        return read_as(Sender::Server, bytes, chosen, start, end);
-    }
-    NOT_VALID
-}
-
-// Reads the Version Information of a known sender.
-fn read_as(
-    sender: Sender,
-    bytes: &[u8],
-    chosen: &mut u32,
-    start: &mut usize,
-    end: &mut usize,
-) -> u32
-    ensures answer { λ r. ⌜ r ≡ refusalOf (readInformation sender (now (bytes .entry))) ⌝ }
-    ensures chosen { λ _. ⌜ now (chosen .exit) ≡ leaving chosenIn (readInformation sender (now (bytes .entry))) (now (chosen .entry)) ⌝ }
-    ensures start { λ _. ⌜ now (start .exit) ≡ leaving startIn (readInformation sender (now (bytes .entry))) (now (start .entry)) ⌝ }
-    ensures end { λ _. ⌜ now (end .exit) ≡ leaving endIn (readInformation sender (now (bytes .entry))) (now (end .entry)) ⌝ }
-{
-    match read_information(sender, bytes) {
+    match read_information(sender_of(sender), bytes) {
         Information::Refused(refusal) => refusal.0 as u32,
         Information::Read {
             chosen: version,
@@ -167,32 +161,14 @@ pub extern "C" fn qv_write_information(
     buffer: &mut [u8],
     count: &mut usize,
 ) -> u32
-    ensures answer { λ r. ⌜ r ≡ refusalOf (forKnown (λ s. informationToWrite s chosen (now (available .entry)) (length (now (buffer .entry)))) (senderOf sender)) ⌝ }
+    ensures answer { λ r. ⌜ r ≡ returned (forKnown (λ s. informationToWrite s chosen (now (available .entry)) (length (now (buffer .entry)))) (senderOf sender)) ⌝ }
     ensures left { λ _. ⌜ now (buffer .exit) ≡ leaves (forKnown (λ s. informationToWrite s chosen (now (available .entry)) (length (now (buffer .entry)))) (senderOf sender)) (now (buffer .entry)) ⌝ }
     ensures counted { λ _. ⌜ now (count .exit) ≡ leaving length (forKnown (λ s. informationToWrite s chosen (now (available .entry)) (length (now (buffer .entry)))) (senderOf sender)) (now (count .entry)) ⌝ }
 {
-    if sender == 0 {
-        return write_as(Sender::Client, chosen, available, buffer, count);
+    if 1 < sender {
+        return NOT_VALID;
     }
-    if sender == 1 {
-        return write_as(Sender::Server, chosen, available, buffer, count);
-    }
-    NOT_VALID
-}
-
-// Writes the Version Information of a known sender.
-fn write_as(
-    sender: Sender,
-    chosen: u32,
-    available: &[u32],
-    buffer: &mut [u8],
-    count: &mut usize,
-) -> u32
-    ensures answer { λ r. ⌜ r ≡ refusalOf (informationToWrite sender chosen (now (available .entry)) (length (now (buffer .entry)))) ⌝ }
-    ensures left { λ _. ⌜ now (buffer .exit) ≡ leaves (informationToWrite sender chosen (now (available .entry)) (length (now (buffer .entry)))) (now (buffer .entry)) ⌝ }
-    ensures counted { λ _. ⌜ now (count .exit) ≡ leaving length (informationToWrite sender chosen (now (available .entry)) (length (now (buffer .entry)))) (now (count .entry)) ⌝ }
-{
-    match write_information(sender, chosen, available, buffer) {
+    match write_information(sender_of(sender), chosen, available, buffer) {
         Written::Refused(refusal) => refusal.0 as u32,
         Written::Count(information_length) => {
             *count = information_length;

@@ -1,6 +1,6 @@
 -- `qv_known_record` meets its contract: field by field.
 use mathlib.Core.Path.{refl}
-use Rattle.c_interface.specs.Records.{knownRecord}
+use Rattle.c_interface.specs.Layout.{knownRecord}
 use Rattle.c_interface.proofs.attempts.qv_known_record.Statement.{statement}
 use Rattle.c_interface.proofs.attempts.qv_known_record.Tie as tie
 

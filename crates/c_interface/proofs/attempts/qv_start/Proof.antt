@@ -1,32 +1,13 @@
--- `qv_start` meets its contract: what `start` hands back, as a record.
-use mathlib.Core.Path.{ap}
+-- `qv_start` meets its contract: what `start_record` hands back.
 use borrow.Author.Needs.{needs}
-use Rattle.attempt.specs.Start.{Input, Start, inputOf}
-use Rattle.c_interface.specs.Numbers.{refusalOf}
-use Rattle.c_interface.specs.Records.{Left, recordOf}
-use Rattle.c_interface.proofs.Records.{start-counts}
 use Rattle.c_interface.proofs.attempts.qv_start.Statement.{statement}
 use Rattle.c_interface.proofs.attempts.qv_start.Tie as tie
 
-abbrev told : tie.After-start → Input
-told c =
-    let g = c .before .before .before .before .args in
-    inputOf (g .table .now) (g .pairs .now) (g .original) (g .destination .now) (g .source .now)
-
-abbrev startLeft : Start → Left
-startLeft s = record { left = recordOf (s .attempt); refusal = refusalOf (s .reply) }
-
-start-requires : tie.Need-start-requires
-start-requires c κs = search needs
-
-encode-requires : tie.Need-encode-requires
-encode-requires c κs = rw (ap (λ (s : Start). s .attempt) (c .before .start .ensures .0)) (start-counts (told (c .before)))
-
-start-number-requires : tie.Need-start-number-requires
-start-number-requires c κs = search needs
+start-record-requires : tie.Need-start-record-requires
+start-record-requires c κs = search needs
 
 returns : tie.Need-returns
-returns c = rw (c .before .encode .ensures, c .start-number .ensures) (ap startLeft (c .before .before .before .start .ensures .0))
+returns c = c .start-record .ensures
 
 pub qv-start-spec : {M : Type 1} → statement M
-qv-start-spec = tie.close (tie.spec start-requires encode-requires start-number-requires returns)
+qv-start-spec = tie.close (tie.spec start-record-requires returns)

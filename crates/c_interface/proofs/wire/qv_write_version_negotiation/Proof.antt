@@ -8,7 +8,7 @@ use lib.ListN.{length}
 use Rattle.refusals.specs.Reply.{Reply}
 use Rattle.refusals.specs.Written.{writtenReply}
 use Rattle.invariants.specs.Packet.{negotiationPacket}
-use Rattle.c_interface.proofs.Crossing.{written-refusal, written-count}
+use Rattle.c_interface.proofs.Crossing.{written-returned, written-count}
 use Rattle.c_interface.proofs.wire.qv_write_version_negotiation.Statement.{statement}
 use Rattle.c_interface.proofs.wire.qv_write_version_negotiation.Tie as tie
 
@@ -37,7 +37,7 @@ returns c =
     let w = c .before .before .before .before .before .before .write-version-negotiation .ensures in
     let e = sym (ap writtenReply (c .before .before .refusal .given .1)) ∙ w .0 in
     let o = owed (c .before .before .before .before .before .before .before .before .before .before .before) in
-    (written-refusal o e, (w .1, written-count o _ e))
+    (written-returned o e, (w .1, written-count o _ e))
 
 same-length-2 : tie.Need-same-length-2
 same-length-2 c = search needs
@@ -47,7 +47,7 @@ returns-2 c =
     let w = c .before .before .before .before .before .write-version-negotiation .ensures in
     let e = sym (ap writtenReply (c .before .packet-length .given .1)) ∙ w .0 in
     let o = owed (c .before .before .before .before .before .before .before .before .before .before) in
-    (written-refusal o e, (w .1, written-count o _ e))
+    (written-returned o e, (w .1, written-count o _ e))
 
 pub qv-write-version-negotiation-spec : {M : Type 1} → statement M
 qv-write-version-negotiation-spec =

@@ -1,0 +1,35 @@
+-- `own_of` meets its contract: a record that no attempt has gets the empty list, another its attempt's own list.
+use mathlib.Core.Bool.{true}
+use mathlib.Core.Path.{_≡_, sym, ap, _∙_}
+use borrow.Author.Needs.{needs}
+use borrow.Author.Tests.{not-true, not-false}
+use Rattle.attempt.specs.Attempt.{padded, ownListOf}
+use Rattle.c_record.specs.Records.{isRecord, ownRecord}
+use Rattle.c_record.proofs.attempts.own_of.Statement.{statement}
+use Rattle.c_record.proofs.attempts.own_of.Tie as tie
+
+is-held : (c : tie.Else1) → isRecord (c .before .before .args .held) ≡ true
+is-held c = sym (c .before .is-record .ensures) ∙ not-false _ (c .if1 .left)
+
+is-record-requires : tie.Need-is-record-requires
+is-record-requires c κs = search needs
+
+returns : tie.Need-returns
+unfolding ownRecord padded
+returns c = rw (sym (c .before .is-record .ensures) ∙ not-true _ (c .if1 .taken))
+
+decode-requires : tie.Need-decode-requires
+decode-requires c κs = is-held c
+
+own-list-requires : tie.Need-own-list-requires
+own-list-requires c κs = search needs
+
+returns-2 : tie.Need-returns-2
+unfolding ownRecord
+returns-2 c =
+    rw (is-held (c .before .before))
+    (c .own-list .ensures ∙ ap ownListOf (c .before .decode .ensures))
+
+pub own-of-spec : {M : Type 1} → statement M
+own-of-spec =
+    tie.close (tie.spec is-record-requires returns decode-requires own-list-requires returns-2)

@@ -1,0 +1,121 @@
+-- The attempt's record without enums, as C keeps it.
+use Prim.Native.Nat.{ℕ}
+use mathlib.Core.Bool.{Bool, true, cond, _&&_}
+use mathlib.Core.List.{List, []}
+use mathlib.Core.Option.{Option, Option.none, Option.some}
+use lib.Dec.{eqb, leb}
+use Rattle.versions.specs.Limits.{maxTable}
+use Rattle.information.specs.declared.Presence.the-variants.{Missing, Given}
+use Rattle.attempt.specs.Attempt.{listInPlaces, ownListOf}
+use Rattle.attempt.specs.Limits.{maxID}
+use Rattle.attempt.specs.Start.{Input, startOf}
+use Rattle.attempt.specs.Step.{After, stepOf}
+use Rattle.attempt.specs.declared.Attempt.{Attempt}
+use Rattle.attempt.specs.declared.End.{End}
+use Rattle.attempt.specs.declared.End.the-variants.{Open, Completed, Closed}
+use Rattle.attempt.specs.declared.Event.{Event}
+use Rattle.attempt.specs.declared.Event.the-variants.{Datagram, PacketProcessed, Outcome}
+use Rattle.attempt.specs.declared.OwnList.{OwnList}
+use Rattle.c_record.specs.Numbers.{flag, notValid, refusalOf}
+use Rattle.c_record.specs.declared.Record.{Record}
+use Rattle.c_record.specs.declared.RecordAndRefusal.{RecordAndRefusal}
+
+-- End marks: 0 open (value 0), 1 completed with the version, 2 closed with the number
+abbrev pub markFits : ℕ → ℕ → Bool
+markFits mark value = cond (eqb mark 0) (eqb value 0) (cond (eqb mark 1) true (eqb mark 2 && leb value 255))
+
+abbrev pub endOf : ℕ → ℕ → End
+endOf mark value = cond (eqb mark 0) Open (cond (eqb mark 1) (Completed value) (Closed value))
+
+abbrev pub markOf : End → ℕ
+markOf Open = 0
+markOf (Completed v) = 1
+markOf (Closed n) = 2
+
+abbrev pub markValue : End → ℕ
+markValue Open = 0
+markValue (Completed v) = v
+markValue (Closed n) = n
+
+-- Counts, flags and marks of a record that an attempt has
+unfoldable pub isRecord : Record → Bool
+isRecord r =
+    leb (r .«table_len») maxTable &&
+    (leb (r .«destination_len») maxID &&
+    (leb (r .«source_len») maxID &&
+    (leb (r .acted) 1 && (leb (r .heard) 1 && (markFits (r .«end_mark») (r .«end_value») && eqb (r .unused) 0)))))
+
+-- The attempt of a record
+unfoldable pub attemptOf : Record → Attempt
+attemptOf r =
+    record {
+      table = r .table;
+      «table_len» = r .«table_len»;
+      rows = r .rows;
+      destination = r .destination;
+      «destination_len» = r .«destination_len»;
+      source = r .source;
+      «source_len» = r .«source_len»;
+      original = r .original;
+      attempted = r .attempted;
+      acted = eqb (r .acted) 1;
+      heard = eqb (r .heard) 1;
+      end = endOf (r .«end_mark») (r .«end_value»);
+    }
+
+-- The record of an attempt
+unfoldable pub recordOf : Attempt → Record
+recordOf a =
+    record {
+      rows = a .rows;
+      table = a .table;
+      destination = a .destination;
+      source = a .source;
+      «table_len» = a .«table_len»;
+      «destination_len» = a .«destination_len»;
+      «source_len» = a .«source_len»;
+      original = a .original;
+      attempted = a .attempted;
+      acted = flag (a .acted);
+      heard = flag (a .heard);
+      «end_mark» = markOf (a .end);
+      «end_value» = markValue (a .end);
+      unused = 0;
+    }
+
+-- Events: 0 a datagram, 1 a packet was processed, 2 an outcome with information given, 3 one with it missing; the
+-- value is the version in use of an outcome, and is not read else
+unfoldable pub eventOf : ℕ → ℕ → Option Event
+eventOf kind value =
+    cond (eqb kind 0) (some Datagram)
+    (cond (eqb kind 1) (some PacketProcessed)
+    (cond (eqb kind 2) (some (Outcome value Given)) (cond (eqb kind 3) (some (Outcome value Missing)) none)))
+
+-- What an event leaves and answers
+pub record Left : Type 0 where
+  pub left : Record
+  pub refusal : ℕ
+
+abbrev pub leftAfter : After → Left
+leftAfter s = record { left = recordOf (s .attempt); refusal = refusalOf (s .reply) }
+
+abbrev pub asFound : Record → Left
+asFound r = record { left = r; refusal = notValid }
+
+abbrev pub eventOn : Record → List ℕ → Option Event → Left
+eventOn r bytes none = asFound r
+eventOn r bytes (some e) = leftAfter (stepOf (attemptOf r) e bytes)
+
+unfoldable pub stepRecord : Record → ℕ → ℕ → List ℕ → Left
+stepRecord r kind value bytes = cond (isRecord r) (eventOn r bytes (eventOf kind value)) (asFound r)
+
+-- What a start hands over
+abbrev pub startRecord : Input → Left
+startRecord x = record { left = recordOf (startOf x .attempt); refusal = refusalOf (startOf x .reply) }
+
+abbrev pub shownLeft : RecordAndRefusal → Left
+shownLeft s = record { left = s .attempt; refusal = s .refusal }
+
+-- The own list of its attempt; the empty list for a record that no attempt has
+unfoldable pub ownRecord : Record → OwnList
+ownRecord r = cond (isRecord r) (ownListOf (attemptOf r)) (listInPlaces [])
