@@ -6,7 +6,7 @@ ghost use Prim.Native.Nat.{_≤_};
 ghost use lib.ListN.{length};
 ghost use Rattle.refusals.specs.Written.{leaves};
 ghost use Rattle.invariants.specs.Header.{readHeader};
-ghost use Rattle.invariants.specs.Packet.{negotiationPacket};
+ghost use Rattle.negotiation.specs.Packet.{negotiationPacket};
 ghost use Rattle.information.specs.Information.{readInformation, informationToWrite};
 ghost use Rattle.c_interface.specs.Numbers.{returned, leaving, formNumber, formVersion, leavingPlaces, senderOf, forKnown, chosenIn, startIn, endIn};
 use c_record::NOT_VALID;
@@ -16,7 +16,7 @@ use information::read_information;
 use information::write_information;
 use invariants::Header;
 use invariants::reader::read_header;
-use invariants::writer::write_version_negotiation;
+use negotiation::write_version_negotiation;
 use refusals::Written;
 use versions::Span;
 

@@ -1,11 +1,11 @@
 -- The header reader's refusals by form, for a datagram of 1 to 65,535 bytes: what is left to judge once 11 and
 -- emptiness are out.
-use Prim.Native.Nat.{ℕ, _+_, _-_, _<_, _≤_}
+use Prim.Native.Nat.{ℕ, _+_, _<_, _≤_}
 use mathlib.Core.Bool.{true, false, _&&_}
 use mathlib.Core.List.{List, [], _∷_}
 use mathlib.Core.Path.{_≡_}
 use native.Mathlib.Omega.{arith}
-use borrow.Author.Tests.{le-ltb, lt-ltb, eq-eqb, ne-eqb}
+use borrow.Author.Tests.{le-ltb, lt-ltb, ne-eqb}
 use lib.Dec.{eqb}
 use lib.ListN.{length}
 use Rattle.refusals.specs.Reply.{Reply, Reply.answered, refuse}
@@ -24,13 +24,6 @@ abbrev pub shortReply : List ℕ → ℕ → Reply Form
 shortReply d told =
     judged Reading ((12 when shortTruncated d told) ∷ [])
     (answered (short (span 1 (1 + told)) (span (1 + told) (length d))))
-
--- Whether a place k within n bytes leaves any of them
-pub none-left : (n k : ℕ) → n ≡ k → eqb (n - k) 0 ≡ true
-none-left n k e = eq-eqb (n - k) 0 (omega arith)
-
-pub some-left : (n k : ℕ) → k ≤ n → (n ≡ k → ⊥) → eqb (n - k) 0 ≡ false
-some-left n k h e = ne-eqb (n - k) 0 (λ z. omega (arith, e))
 
 module _ (d : List ℕ) (told : ℕ) where
   pub reads-over : maxDatagram < length d → readHeader d told ≡ refuse Reading 11

@@ -1,12 +1,16 @@
 -- Worked headers, computed from the definitions alone: the datagrams that document 01 writes out, and the limits.
-use Prim.Native.Nat.{ℕ}
+use Prim.Native.Nat.{ℕ, suc}
+use mathlib.Core.Bool.{true, false}
 use mathlib.Core.List.{List, [], _∷_, _++_}
-use mathlib.Core.Path.{_≡_, refl}
-use lib.ListN.{replicate}
+use mathlib.Core.Path.{_≡_, refl, ap}
+use lib.Dec.{lit<}
+use lib.ListN.{length, replicate, length-replicate, length-drop}
 use Rattle.refusals.specs.Reply.{Reply.answered, refuse}
 use Rattle.refusals.specs.declared.Call.the-variants.{Reading}
 use Rattle.versions.specs.Wire.{entries}
-use Rattle.invariants.specs.Header.{Form.long, Form.short, Form.versionNegotiation, span, destinationID, sourceID, listed, readHeader}
+use Rattle.invariants.specs.Header.{Form.long, Form.short, Form.versionNegotiation, span, isLong, versionOf, destinationLength, sourceLength, destinationID, sourceID, listed, readHeader}
+use Rattle.invariants.specs.Limits.{maxDatagram}
+use Rattle.invariants.proofs.Headers.{reads-over, reads-empty}
 
 -- "received `C0 00 00 00 0C 02 AA BB 01 CC FF`"
 abbrev pub received : List ℕ
@@ -100,6 +104,27 @@ pub short-headers : Short
 unfolding readHeader
 short-headers = record { told-0 = refl; told-2 = refl; told-3 = refl; told-255 = refl; told-256 = refl }
 
-pub lengths : Length
+-- A datagram of as many bytes as there may be, and one more: read by its length, not byte by byte
+
+full-short : (d : List ℕ) → length d ≡ maxDatagram → isLong d ≡ false
+    → readHeader d 8 ≡ answered (short (span 1 9) (span 9 maxDatagram))
 unfolding readHeader
-lengths = record { empty = refl; full = refl; over = refl; full-list = refl; over-list = refl }
+full-short d e l = rw (e, l)
+
+full-negotiation : (d : List ℕ) → length d ≡ maxDatagram → isLong d ≡ true → versionOf d ≡ 0 → destinationLength d ≡ 0
+    → sourceLength d ≡ 0 → readHeader d 0 ≡ answered (versionNegotiation (span 6 6) (span 7 7) (span 7 maxDatagram))
+unfolding readHeader
+full-negotiation d e l v dl sl = rw (e, l, v, sl, dl, length-drop 7 d, e)
+
+one-over : (d : List ℕ) (told : ℕ) → length d ≡ 65536 → readHeader d told ≡ refuse Reading 11
+one-over d told e = reads-over d told (rw e (lit< tt))
+
+pub lengths : Length
+lengths =
+    record {
+      empty = reads-empty [] 0 refl;
+      full = full-short (replicate 65535 64) (length-replicate {A = ℕ} 65535 64) refl;
+      over = one-over (replicate 65536 64) 8 (length-replicate {A = ℕ} 65536 64);
+      full-list = full-negotiation (0x80 ∷ replicate 65534 0) (ap suc (length-replicate {A = ℕ} 65534 0)) refl refl refl refl;
+      over-list = one-over (0x80 ∷ replicate 65535 0) 0 (ap suc (length-replicate {A = ℕ} 65535 0));
+    }

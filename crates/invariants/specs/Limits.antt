@@ -8,7 +8,3 @@ maxDatagram = 65535
 -- Document 01: "Each ID has 0 to 255 bytes"
 abbrev pub maxConnectionID : ℕ
 maxConnectionID = 255
-
--- Document 01: "a number 0 to 127 for the unused bits"
-abbrev pub maxUnusedBits : ℕ
-maxUnusedBits = 127

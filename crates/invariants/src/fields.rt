@@ -2,7 +2,7 @@
 ghost use mathlib.Core.Path.{_≡_};
 ghost use Prim.Native.Nat.{_<_};
 ghost use lib.ListN.{getD};
-ghost use Rattle.invariants.specs.Header.{versionOf, destinationLength, sourceLength, restStart};
+ghost use Rattle.invariants.specs.Header.{versionOf, destinationLength, sourceLength};
 use lists::big_endian;
 
 // The byte at a place, 0 past the end.

@@ -1,8 +1,7 @@
-// RFC 8999, the version-independent properties of QUIC: the header reader and the Version Negotiation
-// writer. Every function answers for every input.
+// RFC 8999, the version-independent properties of QUIC: the header reader, which answers for
+// every input.
 mod fields; // the fields of a long form
 pub mod reader; // the header reader
-pub mod writer; // the Version Negotiation packet that answers a datagram
 
 use refusals::Refusal;
 use versions::Span;
@@ -11,8 +10,6 @@ use versions::Span;
 pub const MAX_DATAGRAM: usize = 65535;
 // The longest connection ID, in bytes, that RFC 8999 allows.
 pub const MAX_CONNECTION_ID: usize = 255;
-// The largest value of the unused bits of a Version Negotiation packet's first byte.
-pub const MAX_UNUSED_BITS: u8 = 127;
 
 // What the header reader answers: a refusal (11, 12, 13), or the form with where its parts lie.
 pub enum Header {

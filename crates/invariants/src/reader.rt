@@ -1,9 +1,11 @@
 // The header reader (RFC 8999 sections 5 and 6): the form of a datagram and where its parts lie.
 ghost use mathlib.Core.Path.{_≡_};
-ghost use mathlib.Core.Bool.{true, false};
-ghost use Prim.Native.Nat.{ℕ, _<_, _≤_};
+ghost use mathlib.Core.Bool.{true, false, not, _||_};
+ghost use Prim.Native.Nat.{ℕ, _%_, _<_, _≤_};
+ghost use lib.Dec.{eqb};
 ghost use lib.ListN.{length};
-ghost use Rattle.invariants.specs.Header.{isLong, span, readHeader, headerReply};
+ghost use Rattle.versions.specs.Wire.{versionBytes};
+ghost use Rattle.invariants.specs.Header.{isLong, readHeader, headerReply};
 ghost use Rattle.invariants.specs.Limits.{maxDatagram};
 use crate::Header;
 use crate::MAX_CONNECTION_ID;
@@ -13,12 +15,6 @@ use crate::fields::source_length;
 use crate::fields::version_of;
 use refusals::Refusal;
 use versions::Span;
-
-fn part(start: usize, end: usize) -> Span
-    ensures { λ r. ⌜ r ≡ span start end ⌝ }
-{
-    Span { start, end }
-}
 
 // The long form of a datagram of 1 to MAX_DATAGRAM bytes, whatever the told length.
 fn read_long(datagram: &[u8]) -> Header
@@ -35,9 +31,18 @@ fn read_long(datagram: &[u8]) -> Header
     if length < rest_start {
         return Header::Refused(Refusal::TRUNCATED);
     }
-    let destination = part(6, destination_end);
-    let source = part(source_start, rest_start);
-    let rest = part(rest_start, length);
+    let destination = Span {
+        start: 6,
+        end: destination_end,
+    };
+    let source = Span {
+        start: source_start,
+        end: rest_start,
+    };
+    let rest = Span {
+        start: rest_start,
+        end: length,
+    };
     let version = version_of(datagram);
     if version != 0 {
         return Header::Long {
@@ -47,10 +52,7 @@ fn read_long(datagram: &[u8]) -> Header
             rest,
         };
     }
-    if length == rest_start {
-        return Header::Refused(Refusal::LIST_NOT_WHOLE);
-    }
-    if (length - rest_start) % 4 != 0 {
+    if not_whole(length - rest_start) {
         return Header::Refused(Refusal::LIST_NOT_WHOLE);
     }
     Header::VersionNegotiation {
@@ -58,6 +60,16 @@ fn read_long(datagram: &[u8]) -> Header
         source,
         list: rest,
     }
+}
+
+// Whether a list of so many bytes is empty, or has bytes left over.
+fn not_whole(count: usize) -> bool
+    ensures { λ r. ⌜ r ≡ (eqb count 0 || not (eqb (count % versionBytes) 0)) ⌝ }
+{
+    if count == 0 {
+        return true;
+    }
+    count % 4 != 0
 }
 
 // The short form of a datagram of 1 to MAX_DATAGRAM bytes.
@@ -74,9 +86,16 @@ fn read_short(datagram: &[u8], told: usize) -> Header
     if datagram.len() < destination_end {
         return Header::Refused(Refusal::TRUNCATED);
     }
-    let destination = part(1, destination_end);
-    let rest = part(destination_end, datagram.len());
-    Header::Short { destination, rest }
+    Header::Short {
+        destination: Span {
+            start: 1,
+            end: destination_end,
+        },
+        rest: Span {
+            start: destination_end,
+            end: datagram.len(),
+        },
+    }
 }
 
 // Reads a datagram's header. Refusals, in order: 11 (over MAX_DATAGRAM bytes), 12 (empty, a field runs past

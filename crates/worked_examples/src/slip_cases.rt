@@ -1,6 +1,6 @@
 // "Slips the old code made, or nearly", on the wire: what the right answer is.
 use crate::show::header_of;
-use invariants::writer::write_version_negotiation;
+use negotiation::write_version_negotiation;
 
 // The connection IDs are swapped: the packet is for the client that sent the datagram.
 pub(crate) fn all() {

@@ -13,32 +13,16 @@ by-form : (c : tie.Start)
 by-form c = reads-short _ _ (c .pre .0) (c .pre .1 .0) (c .pre .1 .1)
 
 returns : tie.Need-returns
-returns c = rw (by-form (c .before .before), lt-ltb _ _ (c .if1 .taken))
+returns c = rw (by-form (c .before), lt-ltb _ _ (c .if1 .taken))
 
 add-destination-end : tie.Need-add-destination-end
 add-destination-end c = search needs
 
 returns-2 : tie.Need-returns-2
-returns-2 c = rw (by-form (c .before .before .before), le-ltb _ _ (c .before .if1 .left), lt-ltb _ _ (c .if2 .taken))
-
-part-requires : tie.Need-part-requires
-part-requires c κs = search needs
-
-part-requires-2 : tie.Need-part-requires-2
-part-requires-2 c κs = search needs
+returns-2 c = rw (by-form (c .before .before), le-ltb _ _ (c .before .if1 .left), lt-ltb _ _ (c .if2 .taken))
 
 returns-3 : tie.Need-returns-3
-returns-3 c =
-    let within = c .before .before in
-    rw (
-      c .before .part .ensures,
-      c .part2 .ensures,
-      by-form (within .before .before .before),
-      le-ltb _ _ (within .before .if1 .left),
-      le-ltb _ _ (within .if2 .left),
-    )
+returns-3 c = rw (by-form (c .before .before), le-ltb _ _ (c .before .if1 .left), le-ltb _ _ (c .if2 .left))
 
 pub read-short-spec : {M : Type 1} → statement M
-read-short-spec =
-    tie.close
-    (tie.spec returns add-destination-end returns-2 part-requires part-requires-2 returns-3)
+read-short-spec = tie.close (tie.spec returns add-destination-end returns-2 returns-3)

@@ -1,0 +1,4 @@
+pub mod Packets
+pub mod Places
+pub mod Received
+pub mod Writing

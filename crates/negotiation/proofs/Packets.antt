@@ -1,0 +1,303 @@
+-- The Version Negotiation packet: its length, and that the header reader reads back from it what was put in. Below, r
+-- is the received datagram and o the offered table.
+use Prim.Native.Nat.{ℕ, zero, suc, _+_, _-_, _*_, _%_, _^_, _≤_, _<_}
+use mathlib.Core.Bool.{Bool, true, false, not, _&&_, _||_, true≢false, false≢true}
+use mathlib.Core.List.{List, [], _∷_, _++_}
+use mathlib.Core.Path.{_≡_, refl, sym, ap, _∙_, subst}
+use native.Mathlib.Omega.{arith}
+use lib.Dec.{eqb, ltb}
+use lib.ListN.{length, take, drop, getD, length-append}
+use lib.Seq.{getD-drop, getD-at, drop-drop, drop-at, take-at}
+use borrow.Author.Tests.{ltb-false, eqb-false, not-true, not-false, le-ltb, le-leb, eq-eqb, ne-eqb}
+use Rattle.refusals.specs.Reply.{Reply, Reply.refused, Reply.answered, refuse}
+use Rattle.refusals.specs.Rule.{Rule, Rule._when_, clear}
+use Rattle.refusals.specs.declared.Call.the-variants.{Writing}
+use Rattle.refusals.proofs.Rules.{both-true, lowest-clear, lowest-applies}
+use Rattle.versions.specs.Limits.{maxTable}
+use Rattle.versions.specs.Table.{elem, entriesKeepRule, tableKeepsRule}
+use Rattle.versions.specs.Version.{reserved, usable}
+use Rattle.versions.specs.Wire.{entries, listBytes, versionBytes}
+use Rattle.versions.specs.declared.Span.{Span}
+use Rattle.versions.proofs.Lists.{part-rest, table-counts}
+use Rattle.versions.proofs.Entries.{allBelow, allBelow-head, entries-listBytes, length-listBytes}
+use Rattle.invariants.specs.Header.{Form.versionNegotiation, span, isLong, versionOf, destinationLength, sourceLength, destinationID, sourceID, sourceStart, restStart, restOf, listed, longTruncated, notWhole, readHeader}
+use Rattle.invariants.specs.Limits.{maxConnectionID, maxDatagram}
+use Rattle.negotiation.specs.Limits.{maxUnusedBits}
+use Rattle.negotiation.specs.Packet.{packetLength, packetFor, offerRules, packetRules, negotiationPacket}
+use Rattle.negotiation.proofs.Places.{length-part}
+
+-- ---- lengths
+
+pub length-destinationID : (r : List ℕ) → restStart r ≤ length r → length (destinationID r) ≡ destinationLength r
+length-destinationID r h = length-part r 6 (destinationLength r) (omega arith)
+
+pub length-sourceID : (r : List ℕ) → restStart r ≤ length r → length (sourceID r) ≡ sourceLength r
+length-sourceID r h = length-part r (sourceStart r) (sourceLength r) (omega arith)
+
+-- Document 01: "7 plus both ID lengths plus 4 per entry"
+pub length-packetFor : (r o : List ℕ) (bits : ℕ) → restStart r ≤ length r
+    → length (packetFor r o bits) ≡ packetLength r o
+unfolding packetFor
+length-packetFor r o bits h =
+    let d = length-destinationID r h in
+    let s = length-sourceID r h in
+    let l = length-listBytes o in
+    let e = length-append (sourceID r) ((destinationLength r ∷ destinationID r) ++ listBytes o) in
+    let f = length-append (destinationID r) (listBytes o) in
+    omega arith
+
+-- ---- what holds where a packet is written
+
+-- None of the refusals 23 to 26 applies
+pub record OfferClear (v count : ℕ) (o : List ℕ) (bits room : ℕ) : Type 0 where
+  pub table : tableKeepsRule o ≡ true
+  pub other : elem v o ≡ false
+  pub bits-fit : bits ≤ maxUnusedBits
+  pub room-fits : count ≤ room
+
+-- None of the refusals applies
+pub record Judged (r o : List ℕ) (bits room : ℕ) : Type 0 where
+  pub limit : length r ≤ maxDatagram
+  pub long : isLong r ≡ true
+  pub complete : restStart r ≤ length r
+  pub version : versionOf r ≡ 0 → ⊥
+  pub offer : OfferClear (versionOf r) (packetLength r o) o bits room
+
+no-rule : (n : ℕ) (t : Bool) (rules : List Rule) → clear ((n when t) ∷ rules) ≡ true → (t ≡ false) × (clear rules ≡ true)
+no-rule n t rules e = let p = both-true (not t) (clear rules) e in (not-true t (p .0), p .1)
+
+pub second-false : (a b : Bool) → (a || b) ≡ false → b ≡ false
+second-false true b e = absurd (true≢false e)
+second-false false b e = e
+
+pub offer-clear : (v count : ℕ) (o : List ℕ) (bits room : ℕ) → clear (offerRules v count o bits room) ≡ true
+    → OfferClear v count o bits room
+offer-clear v count o bits room e =
+    let rules = offerRules v count o bits room in
+    let p23 = no-rule 23 (not (tableKeepsRule o)) (drop 1 rules) e in
+    let p24 = no-rule 24 (elem v o) (drop 2 rules) (p23 .1) in
+    let p25 = no-rule 25 (ltb maxUnusedBits bits) (drop 3 rules) (p24 .1) in
+    let p26 = no-rule 26 (ltb room count) [] (p25 .1) in
+    record {
+      table = not-false (tableKeepsRule o) (p23 .0);
+      other = p24 .0;
+      bits-fit = ltb-false maxUnusedBits bits (p25 .0);
+      room-fits = ltb-false room count (p26 .0);
+    }
+
+pub clear-judged : (r o : List ℕ) (bits room : ℕ) → clear (packetRules r o bits room) ≡ true → Judged r o bits room
+clear-judged r o bits room e =
+    let rules = packetRules r o bits room in
+    let p11 = no-rule 11 (ltb maxDatagram (length r)) (drop 1 rules) e in
+    let p12 = no-rule 12 (eqb (length r) 0 || (isLong r && longTruncated r)) (drop 2 rules) (p11 .1) in
+    let p21 = no-rule 21 (not (isLong r)) (drop 3 rules) (p12 .1) in
+    let p22 = no-rule 22 (eqb (versionOf r) 0) (drop 4 rules) (p21 .1) in
+    let l = not-false (isLong r) (p21 .0) in
+    let whole = second-false (eqb (length r) 0) (isLong r && longTruncated r) (p12 .0) in
+    let w : longTruncated r ≡ false = ap (λ (b : Bool). b && longTruncated r) (sym l) ∙ whole in
+    record {
+      limit = ltb-false maxDatagram (length r) (p11 .0);
+      long = l;
+      complete = ltb-false (length r) (restStart r) w;
+      version = eqb-false (versionOf r) 0 (p22 .0);
+      offer = offer-clear (versionOf r) (packetLength r o) o bits room (p22 .1);
+    }
+
+-- Whether a reply is no refusal
+abbrev pub isAnswered : {A : Type 0} → Reply A → Bool
+isAnswered (refused n c) = false
+isAnswered (answered x) = true
+
+-- Where bytes are written they are the packet's, and no refusal applies
+pub negotiated : (r o : List ℕ) (bits room : ℕ) (bytes : List ℕ) → negotiationPacket r o bits room ≡ answered bytes
+    → Judged r o bits room × (bytes ≡ packetFor r o bits)
+unfolding negotiationPacket
+negotiated r o bits room bytes h = go (clear (packetRules r o bits room)) refl
+  where
+    rules : List Rule
+    rules = packetRules r o bits room
+
+    packet : Reply (List ℕ)
+    packet = answered (packetFor r o bits)
+
+    go : (b : Bool) → clear (packetRules r o bits room) ≡ b → Judged r o bits room × (bytes ≡ packetFor r o bits)
+    go true e =
+        let q : packet ≡ answered bytes = sym (lowest-clear (refuse Writing) packet rules e) ∙ h in
+        (clear-judged r o bits room e, cc)
+    go false e =
+        absurd
+        (lowest-applies (refuse Writing) packet (λ reply. reply ≡ answered bytes → ⊥)
+        (λ n q. false≢true (ap isAnswered q)) rules e h)
+
+-- Document 01: "at most 581"
+abbrev pub maxPacket : ℕ
+maxPacket = 7 + (maxConnectionID + (maxConnectionID + versionBytes * maxTable))
+
+pub maxPacket-is : maxPacket ≡ 581
+maxPacket-is = refl
+
+getD-below : (bound i : ℕ) (s : List ℕ) → 0 < bound → allBelow bound s ≡ true → getD s i 0 < bound
+getD-below bound i [] h e = h
+getD-below bound zero (x ∷ xs) h e = allBelow-head bound x xs e .0
+getD-below bound (suc i) (x ∷ xs) h e = getD-below bound i xs h (allBelow-head bound x xs e .1)
+
+packet-at-most : (r o : List ℕ) (bits room : ℕ) → Judged r o bits room → allBelow 256 r ≡ true
+    → length (packetFor r o bits) ≤ maxPacket
+packet-at-most r o bits room j e =
+    let d = getD-below 256 5 r (omega arith) e in
+    let s = getD-below 256 (6 + destinationLength r) r (omega arith) e in
+    let t = table-counts o (j .offer .table) in
+    rw (length-packetFor r o bits (j .complete)) (omega arith)
+
+pub count-at-most : (r o : List ℕ) (bits room : ℕ) (bytes : List ℕ)
+    → negotiationPacket r o bits room ≡ answered bytes → allBelow 256 r ≡ true → length bytes ≤ maxPacket
+count-at-most r o bits room bytes h e =
+    let p = negotiated r o bits room bytes h in
+    rw (p .1) (packet-at-most r o bits room (p .0) e)
+
+-- ---- the reader reads back what the writer put in
+
+-- The bytes that a span shows
+abbrev pub bytesIn : Span → List ℕ → List ℕ
+bytesIn part bytes = take (part .end - part .start) (drop (part .start) bytes)
+
+-- Whatever length is told, the bytes read as a Version Negotiation packet in which the IDs are those of the
+-- received datagram, swapped, and the list is the offered table in its order
+pub record ReadBack (received offered bytes : List ℕ) : Type 0 where
+  pub destination : Span
+  pub source : Span
+  pub list : Span
+  pub reads : (told : ℕ) → readHeader bytes told ≡ answered (versionNegotiation destination source list)
+  pub destination-bytes : bytesIn destination bytes ≡ sourceID received
+  pub source-bytes : bytesIn source bytes ≡ destinationID received
+  pub list-bytes : entries (bytesIn list bytes) ≡ offered
+  pub destination-swapped : destinationID bytes ≡ sourceID received
+  pub source-swapped : sourceID bytes ≡ destinationID received
+  pub list-kept : listed bytes ≡ offered
+
+-- The header reader on a Version Negotiation packet that none of its refusals meets
+reads-negotiation : (bytes : List ℕ) (told : ℕ) → length bytes ≤ maxDatagram → isLong bytes ≡ true
+    → versionOf bytes ≡ 0 → restStart bytes ≤ length bytes → notWhole (restOf bytes) ≡ false
+    → readHeader bytes told
+    ≡ answered (versionNegotiation (span 6 (6 + destinationLength bytes)) (span (sourceStart bytes) (restStart bytes))
+    (span (restStart bytes) (length bytes)))
+unfolding readHeader
+reads-negotiation bytes told limit long version complete whole =
+    let some : length bytes ≡ 0 → ⊥ = λ e. absurd (omega arith) in
+    rw (le-ltb _ _ limit, ne-eqb _ _ some, long, le-ltb _ _ complete, eq-eqb _ _ version, whole)
+
+-- Where the fields of the packet lie
+module _ (r o : List ℕ) (bits : ℕ) (complete : restStart r ≤ length r) where
+  packet-destinationLength : destinationLength (packetFor r o bits) ≡ sourceLength r
+  unfolding packetFor
+  packet-destinationLength = refl
+
+  packet-sourceLength : sourceLength (packetFor r o bits) ≡ destinationLength r
+  unfolding packetFor
+  packet-sourceLength =
+      sym (getD-drop 6 (packetFor r o bits) (sourceLength r) 0) ∙
+      getD-at (sourceID r) (destinationLength r) (destinationID r ++ listBytes o) 0 (sourceLength r)
+      (length-sourceID r complete)
+
+  packet-destinationID : destinationID (packetFor r o bits) ≡ sourceID r
+  unfolding packetFor
+  packet-destinationID = take-at (sourceID r) _ (sourceLength r) (length-sourceID r complete)
+
+  from-source : drop (sourceStart (packetFor r o bits)) (packetFor r o bits) ≡ destinationID r ++ listBytes o
+  unfolding packetFor
+  from-source =
+      let bytes = packetFor r o bits in
+      let sl = sourceLength r in
+      let z : 7 + sl ≡ 6 + sl + 1 = omega arith in
+      let behind = sym (drop-drop sl 6 bytes) ∙ drop-at (sourceID r) _ sl (length-sourceID r complete) in
+      ap (λ (k : ℕ). drop k bytes) z ∙ sym (drop-drop 1 (6 + sl) bytes) ∙ ap (drop 1) behind
+
+  packet-sourceID : sourceID (packetFor r o bits) ≡ destinationID r
+  packet-sourceID =
+      let bytes = packetFor r o bits in
+      ap (λ (k : ℕ). take k (drop (sourceStart bytes) bytes)) packet-sourceLength ∙
+      ap (take (destinationLength r)) from-source ∙
+      take-at (destinationID r) (listBytes o) (destinationLength r) (length-destinationID r complete)
+
+  packet-restOf : restOf (packetFor r o bits) ≡ listBytes o
+  packet-restOf =
+      let bytes = packetFor r o bits in
+      ap (λ (k : ℕ). drop (sourceStart bytes + k) bytes) packet-sourceLength ∙
+      sym (drop-drop (destinationLength r) (sourceStart bytes) bytes) ∙
+      ap (drop (destinationLength r)) from-source ∙
+      drop-at (destinationID r) (listBytes o) (destinationLength r) (length-destinationID r complete)
+
+list-whole : (o : List ℕ) → 1 ≤ length o → notWhole (listBytes o) ≡ false
+list-whole o h =
+    let l = length-listBytes o in
+    let some : length (listBytes o) ≡ 0 → ⊥ = λ e. absurd (omega arith) in
+    let fours : length (listBytes o) % versionBytes ≡ 0 = omega arith in
+    rw (ne-eqb _ _ some, eq-eqb _ _ fours)
+
+packet-long : (r o : List ℕ) (bits : ℕ) → isLong (packetFor r o bits) ≡ true
+unfolding packetFor
+packet-long r o bits = le-leb 128 (128 + bits) (omega arith)
+
+packet-version : (r o : List ℕ) (bits : ℕ) → versionOf (packetFor r o bits) ≡ 0
+unfolding packetFor
+packet-version r o bits = refl
+
+packet-read : (r o : List ℕ) (bits room : ℕ) → Judged r o bits room → allBelow 256 r ≡ true
+    → allBelow (2 ^ 32) o ≡ true → ReadBack r o (packetFor r o bits)
+packet-read r o bits room j er eo =
+    let bytes = packetFor r o bits in
+    let c = j .complete in
+    let l = length-packetFor r o bits c in
+    let d = packet-destinationLength r o bits c in
+    let s = packet-sourceLength r o bits c in
+    let rest = packet-restOf r o bits c in
+    let limit : length bytes ≤ maxDatagram = omega (arith, packet-at-most r o bits room j er) in
+    let complete : restStart bytes ≤ length bytes = omega arith in
+    let whole : notWhole (restOf bytes) ≡ false = ap notWhole rest ∙ list-whole o (table-counts o (j .offer .table) .0) in
+    let kept : listed bytes ≡ o = ap entries rest ∙ entries-listBytes o eo in
+    let nd : 6 + destinationLength bytes - 6 ≡ destinationLength bytes = omega arith in
+    let ns : restStart bytes - sourceStart bytes ≡ sourceLength bytes = omega arith in
+    record {
+      destination = span 6 (6 + destinationLength bytes);
+      source = span (sourceStart bytes) (restStart bytes);
+      list = span (restStart bytes) (length bytes);
+      reads = λ told. reads-negotiation bytes told limit (packet-long r o bits) (packet-version r o bits) complete whole;
+      destination-bytes = ap (λ (k : ℕ). take k (drop 6 bytes)) nd ∙ packet-destinationID r o bits c;
+      source-bytes = ap (λ (k : ℕ). take k (drop (sourceStart bytes) bytes)) ns ∙ packet-sourceID r o bits c;
+      list-bytes = ap entries (part-rest bytes (restStart bytes)) ∙ kept;
+      destination-swapped = packet-destinationID r o bits c;
+      source-swapped = packet-sourceID r o bits c;
+      list-kept = kept;
+    }
+
+-- The header reader reads back what the writer put in
+pub read-back : (received offered : List ℕ) (unusedBits room : ℕ) (bytes : List ℕ)
+    → negotiationPacket received offered unusedBits room ≡ answered bytes
+    → allBelow 256 received ≡ true → allBelow (2 ^ 32) offered ≡ true → ReadBack received offered bytes
+read-back r o bits room bytes h er eo =
+    let p = negotiated r o bits room bytes h in
+    subst (ReadBack r o) (sym (p .1)) (packet-read r o bits room (p .0) er eo)
+
+-- ---- document 01's whole case
+
+-- "received `C0 00 00 00 0C 02 AA BB 01 CC FF`, offered 14, 13, 10, bits 64, gives the 22 bytes `C0 00 00 00 00 01 CC
+-- 02 AA BB 00 00 00 0E 00 00 00 0D 00 00 00 0A`"
+abbrev pub caseReceived : List ℕ
+caseReceived = 0xC0 ∷ 0x00 ∷ 0x00 ∷ 0x00 ∷ 0x0C ∷ 0x02 ∷ 0xAA ∷ 0xBB ∷ 0x01 ∷ 0xCC ∷ 0xFF ∷ []
+
+abbrev pub caseOffered : List ℕ
+caseOffered = 14 ∷ 13 ∷ 10 ∷ []
+
+abbrev pub casePacket : List ℕ
+casePacket =
+    0xC0 ∷ 0x00 ∷ 0x00 ∷ 0x00 ∷ 0x00 ∷ 0x01 ∷ 0xCC ∷ 0x02 ∷ 0xAA ∷ 0xBB ∷
+    0x00 ∷ 0x00 ∷ 0x00 ∷ 0x0E ∷ 0x00 ∷ 0x00 ∷ 0x00 ∷ 0x0D ∷ 0x00 ∷ 0x00 ∷ 0x00 ∷ 0x0A ∷ []
+
+pub whole-case : negotiationPacket caseReceived caseOffered 64 22 ≡ answered casePacket
+unfolding negotiationPacket packetFor listBytes tableKeepsRule entriesKeepRule elem usable reserved
+whole-case = refl
+
+-- It meets the premises of `read-back`
+pub whole-case-read : ReadBack caseReceived caseOffered casePacket
+unfolding allBelow
+whole-case-read = read-back caseReceived caseOffered 64 22 casePacket whole-case refl refl

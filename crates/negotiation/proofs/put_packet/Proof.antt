@@ -1,0 +1,99 @@
+-- `put_packet` meets its contract: the front, the IDs and the list are put one behind the other.
+use borrow.Author.Needs.{needs}
+use denote.Ref.{now}
+use Rattle.negotiation.proofs.Writing.{put-parts}
+use Rattle.negotiation.proofs.put_packet.Statement.{statement}
+use Rattle.negotiation.proofs.put_packet.Tie as tie
+
+add-source-start : tie.Need-add-source-start
+add-source-start c = search needs
+
+add-second-id : tie.Need-add-second-id
+add-second-id c = search needs
+
+add-list : tie.Need-add-list
+add-list c = search needs
+
+add-list-2 : tie.Need-add-list-2
+add-list-2 c = search needs
+
+add-put-front : tie.Need-add-put-front
+add-put-front c = search needs
+
+put-front-requires : tie.Need-put-front-requires
+put-front-requires c κs = search needs
+
+sub-put-id : tie.Need-sub-put-id
+sub-put-id c = search needs
+
+part-put-id-start : tie.Need-part-put-id-start
+part-put-id-start c = search needs
+
+part-put-id-end : tie.Need-part-put-id-end
+part-put-id-end c = search needs
+
+put-id-requires : tie.Need-put-id-requires
+put-id-requires c κs = search needs
+
+sub-put-id-2 : tie.Need-sub-put-id-2
+sub-put-id-2 c = search needs
+
+part-put-id-start-2 : tie.Need-part-put-id-start-2
+part-put-id-start-2 c = search needs
+
+part-put-id-end-2 : tie.Need-part-put-id-end-2
+part-put-id-end-2 c = search needs
+
+put-id-requires-2 : tie.Need-put-id-requires-2
+put-id-requires-2 c κs = search needs
+
+sub-put-list : tie.Need-sub-put-list
+sub-put-list c = search needs
+
+part-put-list-start : tie.Need-part-put-list-start
+part-put-list-start c = search needs
+
+part-put-list-end : tie.Need-part-put-list-end
+part-put-list-end c = search needs
+
+put-list-requires : tie.Need-put-list-requires
+put-list-requires c κs = search needs
+
+same-length : tie.Need-same-length
+same-length c = search needs
+
+returns : tie.Need-returns
+returns c =
+    let start = c .before .before .before .before .before .before .before .before .before .before .before .before .before .before .before .before .before .before .before in
+    let front = c .before .before .before .before .before .before .before .before .before .before .before .before .before .before .put-front in
+    let first = c .before .before .before .before .before .before .before .before .before .before .put-id in
+    let second = c .before .before .before .before .before .before .put-id2 in
+    let list = c .before .before .put-list in
+    put-parts (now (start .args .received)) (now (start .args .offered)) (now (start .args .buffer)) (start .args .unused-bits)
+    (start .args .destination) (start .args .source) (front .last .1 .0) (first .last .1 .1 .1 .0) (second .last .1 .1 .1 .0) (list .last .1 .0)
+    (start .pre .0) (start .pre .1 .1) (front .ensures) (first .ensures) (second .ensures) (list .ensures .1)
+
+pub put-packet-spec : {M : Type 1} → statement M
+put-packet-spec =
+    tie.close
+    (tie.spec
+    add-source-start
+    add-second-id
+    add-list
+    add-list-2
+    add-put-front
+    put-front-requires
+    sub-put-id
+    part-put-id-start
+    part-put-id-end
+    put-id-requires
+    sub-put-id-2
+    part-put-id-start-2
+    part-put-id-end-2
+    put-id-requires-2
+    sub-put-list
+    part-put-list-start
+    part-put-list-end
+    put-list-requires
+    same-length
+    returns)

@@ -1,0 +1,37 @@
+-- What the writer's private functions ask and answer. No public promise names it.
+use Prim.Native.Nat.{ℕ, _+_, _*_, _≤_}
+use mathlib.Core.Bool.{cond}
+use mathlib.Core.List.{List}
+use mathlib.Core.Path.{_≡_}
+use lib.Dec.{eqb}
+use lib.ListN.{length}
+use Rattle.refusals.specs.Reply.{Reply, Reply.answered}
+use Rattle.refusals.specs.Rule.{judged}
+use Rattle.refusals.specs.declared.Call.the-variants.{Writing}
+use Rattle.versions.specs.Wire.{versionBytes}
+use Rattle.invariants.specs.Header.{versionOf, destinationLength, sourceLength, restStart}
+use Rattle.invariants.specs.Limits.{maxConnectionID}
+use Rattle.negotiation.specs.Packet.{packetLength, packetFor, offerRules}
+
+-- The lengths of the connection IDs of a complete long form
+pub record Lengths (received : List ℕ) (destination source : ℕ) : Type 0 where
+  pub within : restStart received ≤ length received
+  pub destination-is : destination ≡ destinationLength received
+  pub source-is : source ≡ sourceLength received
+  -- each is a byte
+  pub destination-short : destination ≤ maxConnectionID
+  pub source-short : source ≤ maxConnectionID
+
+-- The refusal that goes with one of the header reader: 13 is said of version 0 alone, which is a 22 here
+abbrev pub writerNumber : ℕ → ℕ
+writerNumber n = cond (eqb n 13) 22 n
+
+-- The packet's length, for connection IDs of so many bytes in all
+abbrev pub countOf : ℕ → List ℕ → ℕ
+countOf ids offered = 7 + (ids + versionBytes * length offered)
+
+-- The answer to a complete long form: what is left to judge is the offer
+unfoldable pub offerAnswer : List ℕ → List ℕ → ℕ → ℕ → Reply (List ℕ)
+offerAnswer received offered unusedBits room =
+    judged Writing (offerRules (versionOf received) (packetLength received offered) offered unusedBits room)
+    (answered (packetFor received offered unusedBits))

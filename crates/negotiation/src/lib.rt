@@ -1,0 +1,195 @@
+// RFC 8999 section 6: the Version Negotiation packet that answers a received datagram. The writer answers for
+// every input.
+ghost use mathlib.Core.Path.{_≡_};
+ghost use mathlib.Core.List.{_∷_, _++_};
+ghost use Prim.Native.Nat.{suc, _+_, _≤_};
+ghost use lib.ListN.{length, take, drop};
+ghost use Rattle.refusals.specs.Reply.{Reply.answered};
+ghost use Rattle.refusals.specs.Rule.{judged};
+ghost use Rattle.refusals.specs.declared.Call.the-variants.{Writing};
+ghost use Rattle.refusals.specs.Written.{writtenReply, counted, leaves};
+ghost use Rattle.versions.specs.Wire.{bytesOf};
+ghost use Rattle.invariants.specs.Header.{versionOf};
+ghost use Rattle.invariants.specs.Limits.{maxConnectionID};
+ghost use Rattle.negotiation.specs.Limits.{maxUnusedBits};
+ghost use Rattle.negotiation.specs.Packet.{packetLength, packetFor, offerRules, negotiationPacket};
+ghost use Rattle.negotiation.specs.Parts.{Lengths, writerNumber, countOf, offerAnswer};
+use invariants::Header;
+use invariants::reader::read_header;
+use refusals::Refusal;
+use refusals::Written;
+use versions::table::contains;
+use versions::table::is_table;
+use lists::put_list;
+
+// The largest value of the unused bits of a Version Negotiation packet's first byte.
+pub const MAX_UNUSED_BITS: u8 = 127;
+
+// Writes the packet at the buffer's front and answers its byte count, at most 581: first byte 128 plus
+// the unused bits, version 0, the received source connection ID as destination, the received destination
+// connection ID as source (each behind its length), the offered table in its order, big endian. Bytes of
+// the buffer past the count keep their values. Refusals, in order, each of which leaves the buffer as found:
+// 11 (the datagram has over invariants::MAX_DATAGRAM bytes), 12 (it is empty, or a field of its long form
+// runs past the end), 21 (it has the short form), 22 (it has version 0), 23 (the offered table breaks its
+// rule), 24 (the received version is in it), 25 (the unused bits are over MAX_UNUSED_BITS), 26 (the buffer
+// is shorter than the packet).
+pub fn write_version_negotiation(
+    received: &[u8],
+    offered: &[u32],
+    unused_bits: u8,
+    buffer: &mut [u8],
+) -> Written
+    ensures answer { λ r. ⌜ writtenReply r ≡ counted (negotiationPacket (now (received .entry)) (now (offered .entry)) «unused_bits» (length (now (buffer .entry)))) ⌝ }
+    ensures left { λ _. ⌜ now (buffer .exit) ≡ leaves (negotiationPacket (now (received .entry)) (now (offered .entry)) «unused_bits» (length (now (buffer .entry)))) (now (buffer .entry)) ⌝ }
+{
+    // Told length 0: a short form is a 12 only where it is empty.
+    match read_header(received, 0) {
+        Header::Refused(refusal) => Written::Refused(of_header(refusal)),
+        Header::Short {
+            destination: _,
+            rest: _,
+        } => Written::Refused(Refusal::SHORT_FORM),
+        Header::VersionNegotiation {
+            destination: _,
+            source: _,
+            list: _,
+        } => Written::Refused(Refusal::VERSION_NEGOTIATION_RECEIVED),
+        Header::Long {
+            version,
+            destination,
+            source,
+            rest: _,
+        } => write_long(
+            received,
+            version,
+            destination.end - destination.start,
+            source.end - source.start,
+            offered,
+            unused_bits,
+            buffer,
+        ),
+    }
+}
+
+// The refusal that goes with one of the header reader's: a 13 has version 0, which is a 22 here.
+fn of_header(refusal: Refusal) -> Refusal
+    ensures { λ r. ⌜ r .0 ≡ writerNumber (refusal .0) ⌝ }
+{
+    if refusal.0 != Refusal::LIST_NOT_WHOLE.0 {
+        return refusal;
+    }
+    Refusal::VERSION_NEGOTIATION_RECEIVED
+}
+
+// Answers a complete long form of this version, with connection IDs of these lengths: judges 23 to 26, then
+// puts the packet.
+fn write_long(
+    received: &[u8],
+    version: u32,
+    destination: usize,
+    source: usize,
+    offered: &[u32],
+    unused_bits: u8,
+    buffer: &mut [u8],
+) -> Written
+    requires version { ⌜ version ≡ versionOf (now received) ⌝ }
+    requires lengths { ⌜ Lengths (now received) destination source ⌝ }
+    ensures answer { λ r. ⌜ writtenReply r ≡ counted (offerAnswer (now (received .entry)) (now (offered .entry)) «unused_bits» (length (now (buffer .entry)))) ⌝ }
+    ensures left { λ _. ⌜ now (buffer .exit) ≡ leaves (offerAnswer (now (received .entry)) (now (offered .entry)) «unused_bits» (length (now (buffer .entry)))) (now (buffer .entry)) ⌝ }
+{
+    let ids = destination + source;
+    let answer = judge_offer(version, ids, offered, unused_bits, buffer.len());
+    match answer {
+        Written::Refused(_) => {}
+        Written::Count(_) => put_packet(
+            received,
+            destination,
+            source,
+            offered,
+            unused_bits,
+            buffer,
+        ),
+    }
+    answer
+}
+
+// The answer for connection IDs of so many bytes in all: the refusals 23 to 26.
+fn judge_offer(version: u32, ids: usize, offered: &[u32], unused_bits: u8, room: usize) -> Written
+    requires { ⌜ ids ≤ maxConnectionID + maxConnectionID ⌝ }
+    ensures { λ r. ⌜ writtenReply r ≡ judged Writing (offerRules version (countOf ids (now (offered .entry))) (now (offered .entry)) «unused_bits» room) (answered (countOf ids (now (offered .entry)))) ⌝ }
+{
+    if !is_table(offered) {
+        return Written::Refused(Refusal::BAD_OFFERED_TABLE);
+    }
+    if contains(offered, version) {
+        return Written::Refused(Refusal::RECEIVED_VERSION_OFFERED);
+    }
+    if MAX_UNUSED_BITS < unused_bits {
+        return Written::Refused(Refusal::UNUSED_BITS_TOO_LARGE);
+    }
+    let count = 7 + (ids + 4 * offered.len());
+    if room < count {
+        return Written::Refused(Refusal::NO_ROOM_FOR_PACKET);
+    }
+    Written::Count(count)
+}
+
+// Puts the packet at the buffer's front, part by part: IDs swapped, each behind its length. (There is room for
+// the list, so `put_list` answers true.)
+fn put_packet(
+    received: &[u8],
+    destination: usize,
+    source: usize,
+    offered: &[u32],
+    unused_bits: u8,
+    buffer: &mut [u8],
+)
+    requires lengths { ⌜ Lengths (now received) destination source ⌝ }
+    requires bits { ⌜ «unused_bits» ≤ maxUnusedBits ⌝ }
+    requires room { ⌜ packetLength (now received) (now offered) ≤ length (now buffer) ⌝ }
+    ensures { λ _. ⌜ now (buffer .exit) ≡ leaves (answered (packetFor (now (received .entry)) (now (offered .entry)) «unused_bits»)) (now (buffer .entry)) ⌝ }
+{
+    let source_start = 7 + destination;
+    let second_id = 6 + source;
+    let list = 7 + source + destination;
+    put_front(128 + unused_bits, buffer);
+    put_id(received, source_start, source, &mut buffer[5..]);
+    put_id(received, 6, destination, &mut buffer[second_id..]);
+    put_list(offered, &mut buffer[list..]);
+}
+
+// Puts the first byte and version 0 at the buffer's front.
+fn put_front(first: u8, buffer: &mut [u8])
+    requires { ⌜ 5 ≤ length (now buffer) ⌝ }
+    ensures { λ _. ⌜ now (buffer .exit) ≡ (first ∷ bytesOf 0) ++ drop 5 (now (buffer .entry)) ⌝ }
+{
+    buffer[0] = first;
+    buffer[1] = 0;
+    buffer[2] = 0;
+    buffer[3] = 0;
+    buffer[4] = 0;
+}
+
+// Puts the connection ID that starts at a place of the bytes, behind its length, at the buffer's front.
+fn put_id(bytes: &[u8], start: usize, count: usize, buffer: &mut [u8])
+    requires within { ⌜ start + count ≤ length (now bytes) ⌝ }
+    requires short { ⌜ count ≤ maxConnectionID ⌝ }
+    requires room { ⌜ suc count ≤ length (now buffer) ⌝ }
+    ensures { λ _. ⌜ now (buffer .exit) ≡ leaves (answered (count ∷ take count (drop start (now (bytes .entry))))) (now (buffer .entry)) ⌝ }
+{
+    let end = start + count;
+    buffer[0] = count as u8;
+    put_bytes(&bytes[start..end], &mut buffer[1..]);
+}
+
+// Puts bytes at the buffer's front.
+fn put_bytes(from: &[u8], buffer: &mut [u8])
+    requires { ⌜ length (now from) ≤ length (now buffer) ⌝ }
+    ensures { λ _. ⌜ now (buffer .exit) ≡ now (from .entry) ++ drop (length (now (from .entry))) (now (buffer .entry)) ⌝ }
+{
+    let mut i = 0;
+    while i < from.len() {
+        buffer[i] = from[i];
+        i += 1;
+    }
+}
