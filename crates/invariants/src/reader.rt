@@ -15,6 +15,7 @@ use crate::fields::source_length;
 use crate::fields::version_of;
 use refusals::Refusal;
 use versions::Span;
+use versions::VERSION_BYTES;
 
 // The long form of a datagram of 1 to MAX_DATAGRAM bytes, whatever the told length.
 fn read_long(datagram: &[u8]) -> Header
@@ -69,7 +70,7 @@ fn not_whole(count: usize) -> bool
     if count == 0 {
         return true;
     }
-    count % 4 != 0
+    count % VERSION_BYTES != 0
 }
 
 // The short form of a datagram of 1 to MAX_DATAGRAM bytes.

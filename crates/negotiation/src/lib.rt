@@ -16,11 +16,12 @@ ghost use Rattle.negotiation.specs.Packet.{packetLength, packetFor, offe
 ghost use Rattle.negotiation.specs.Parts.{Lengths, writerNumber, countOf, offerAnswer};
 use invariants::Header;
 use invariants::reader::read_header;
+use lists::put_list;
 use refusals::Refusal;
 use refusals::Written;
+use versions::VERSION_BYTES;
 use versions::table::contains;
 use versions::table::is_table;
-use lists::put_list;
 
 // The largest value of the unused bits of a Version Negotiation packet's first byte.
 pub const MAX_UNUSED_BITS: u8 = 127;
@@ -127,7 +128,7 @@ fn judge_offer(version: u32, ids: usize, offered: &[u32], unused_bits: u8, room:
     if MAX_UNUSED_BITS < unused_bits {
         return Written::Refused(Refusal::UNUSED_BITS_TOO_LARGE);
     }
-    let count = 7 + (ids + 4 * offered.len());
+    let count = 7 + (ids + VERSION_BYTES * offered.len());
     if room < count {
         return Written::Refused(Refusal::NO_ROOM_FOR_PACKET);
     }
