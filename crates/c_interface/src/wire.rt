@@ -4,7 +4,7 @@ ghost use mathlib.Core.Path.{_≡_};
 ghost use lib.ListN.{length};
 ghost use Rattle.refusals.specs.Written.{leaves};
 ghost use Rattle.invariants.specs.Header.{readHeader};
-ghost use Rattle.invariants.specs.Packet.{negotiationPacket};
+ghost use Rattle.negotiation.specs.Packet.{negotiationPacket};
 ghost use Rattle.information.specs.Information.{readInformation, informationToWrite};
 ghost use Rattle.c_interface.specs.Numbers.{refusalOf, leaving, formNumber, formVersion, formPlaces, senderOf, forKnown, chosenIn, startIn, endIn};
 use crate::NOT_VALID;
@@ -14,7 +14,7 @@ use information::read_information;
 use information::write_information;
 use invariants::Header;
 use invariants::reader::read_header;
-use invariants::writer::write_version_negotiation;
+use negotiation::write_version_negotiation;
 use refusals::Written;
 use versions::Span;
 

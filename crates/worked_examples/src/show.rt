@@ -12,7 +12,7 @@ use information::read_information;
 use information::write_information;
 use invariants::Header;
 use invariants::reader::read_header;
-use invariants::writer::write_version_negotiation;
+use negotiation::write_version_negotiation;
 use refusals::Call;
 use refusals::Written;
 use server::Decision;

@@ -3,7 +3,7 @@ use crate::records;
 use crate::show::header_of;
 use crate::show_client::datagram;
 use crate::show_client::outcome;
-use invariants::writer::write_version_negotiation;
+use negotiation::write_version_negotiation;
 
 pub(crate) fn all() {
     version_in_use_is_added();

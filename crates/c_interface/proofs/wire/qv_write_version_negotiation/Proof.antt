@@ -7,7 +7,7 @@ use denote.Ref.{now}
 use lib.ListN.{length}
 use Rattle.refusals.specs.Reply.{Reply}
 use Rattle.refusals.specs.Written.{writtenReply}
-use Rattle.invariants.specs.Packet.{negotiationPacket}
+use Rattle.negotiation.specs.Packet.{negotiationPacket}
 use Rattle.c_interface.proofs.Crossing.{written-refusal, written-count}
 use Rattle.c_interface.proofs.wire.qv_write_version_negotiation.Statement.{statement}
 use Rattle.c_interface.proofs.wire.qv_write_version_negotiation.Tie as tie
