@@ -106,6 +106,13 @@ short-headers = record { told-0 = refl; told-2 = refl; told-3 = refl; told-255 =
 
 -- A datagram of as many bytes as there may be, and one more: read by its length, not byte by byte
 
+-- A long form that is 0 from its version on
+abbrev zeros : ℕ → List ℕ
+zeros n = 0x80 ∷ replicate n 0
+
+length-zeros : (n : ℕ) → length (zeros n) ≡ suc n
+length-zeros n = ap suc (length-replicate {A = ℕ} n 0)
+
 full-short : (d : List ℕ) → length d ≡ maxDatagram → isLong d ≡ false
     → readHeader d 8 ≡ answered (short (span 1 9) (span 9 maxDatagram))
 unfolding readHeader
@@ -125,6 +132,6 @@ lengths =
       empty = reads-empty [] 0 refl;
       full = full-short (replicate 65535 64) (length-replicate {A = ℕ} 65535 64) refl;
       over = one-over (replicate 65536 64) 8 (length-replicate {A = ℕ} 65536 64);
-      full-list = full-negotiation (0x80 ∷ replicate 65534 0) (ap suc (length-replicate {A = ℕ} 65534 0)) refl refl refl refl;
-      over-list = one-over (0x80 ∷ replicate 65535 0) 0 (ap suc (length-replicate {A = ℕ} 65535 0));
+      full-list = full-negotiation (zeros 65534) (length-zeros 65534) refl refl refl refl;
+      over-list = one-over (zeros 65535) 0 (length-zeros 65535);
     }

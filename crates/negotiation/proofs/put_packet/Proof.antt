@@ -1,6 +1,11 @@
 -- `put_packet` meets its contract: the front, the IDs and the list are put one behind the other.
 use borrow.Author.Needs.{needs}
+use mathlib.Core.Path.{_∙_, ap}
+use lib.ListN.{length}
 use denote.Ref.{now}
+use Rattle.negotiation.specs.Packet.{packetFor}
+use Rattle.negotiation.proofs.Packets.{length-packetFor}
+use Rattle.negotiation.proofs.Places.{length-put}
 use Rattle.negotiation.proofs.Writing.{put-parts}
 use Rattle.negotiation.proofs.put_packet.Statement.{statement}
 use Rattle.negotiation.proofs.put_packet.Tie as tie
@@ -27,7 +32,7 @@ sub-put-id : tie.Need-sub-put-id
 sub-put-id c = search needs
 
 part-put-id-start : tie.Need-part-put-id-start
-part-put-id-start c = search needs
+part-put-id-start c = sub-put-id c
 
 part-put-id-end : tie.Need-part-put-id-end
 part-put-id-end c = search needs
@@ -39,7 +44,7 @@ sub-put-id-2 : tie.Need-sub-put-id-2
 sub-put-id-2 c = search needs
 
 part-put-id-start-2 : tie.Need-part-put-id-start-2
-part-put-id-start-2 c = search needs
+part-put-id-start-2 c = sub-put-id-2 c
 
 part-put-id-end-2 : tie.Need-part-put-id-end-2
 part-put-id-end-2 c = search needs
@@ -51,16 +56,13 @@ sub-put-list : tie.Need-sub-put-list
 sub-put-list c = search needs
 
 part-put-list-start : tie.Need-part-put-list-start
-part-put-list-start c = search needs
+part-put-list-start c = sub-put-list c
 
 part-put-list-end : tie.Need-part-put-list-end
 part-put-list-end c = search needs
 
 put-list-requires : tie.Need-put-list-requires
 put-list-requires c κs = search needs
-
-same-length : tie.Need-same-length
-same-length c = search needs
 
 returns : tie.Need-returns
 returns c =
@@ -72,6 +74,15 @@ returns c =
     put-parts (now (start .args .received)) (now (start .args .offered)) (now (start .args .buffer)) (start .args .unused-bits)
     (start .args .destination) (start .args .source) (front .last .1 .0) (first .last .1 .1 .1 .0) (second .last .1 .1 .1 .0) (list .last .1 .0)
     (start .pre .0) (start .pre .1 .1) (front .ensures) (first .ensures) (second .ensures) (list .ensures .1)
+
+same-length : tie.Need-same-length
+same-length c =
+    let start = c .before .before .before .before .before .before .before .before .before .before .before .before .before .before .before .before .before .before .before in
+    let received = now (start .args .received) in
+    let offered = now (start .args .offered) in
+    ap length (returns c) ∙
+    length-put (packetFor received offered (start .args .unused-bits)) (now (start .args .buffer))
+    (rw (length-packetFor received offered (start .args .unused-bits) (start .pre .0 .within)) (start .pre .1 .1))
 
 pub put-packet-spec : {M : Type 1} → statement M
 put-packet-spec =
