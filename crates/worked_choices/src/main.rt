@@ -1,20 +1,13 @@
-// Document 01's worked calls of the server and of the client beside P1 to P12, run through the public functions: one
-// line for each case, in the order of document 01's sections. "When the desk says no" has one line for each number
-// from 43 on; the lower ones, and what is on the wire, are in the program worked_examples.
-mod call_cases; // "Calls from both sides of the line": the server's choice
-mod choice_cases; // "How a version is chosen": by the server, by the client
-mod event_refusals; // "When the desk says no": 61 to 75
-mod records; // the attempts that the cases go through
-mod say; // words, numbers, versions and refusals, printed
-mod show_client; // one start, own list or event and one line
-mod show_server; // one choice of a server and one line
-mod slip_cases; // "Slips the old code made, or nearly": the client's
-mod start_refusals; // "When the desk says no": 43 to 51
+// Document 01's worked choices beside P1 to P12, from a list and by the server, run through the public functions: one
+// line for each case. "When the desk says no" has one line for each of 40, 41, 42 and 51.
+mod list_cases; // "How a version is chosen": from a list
+mod list_refusals; // "When the desk says no": 40 to 42
+mod say; // words, versions and refusals, printed
+mod server_cases; // by the server
+mod show; // one choice and one line
 
 fn main() {
-    choice_cases::all();
-    start_refusals::all();
-    event_refusals::all();
-    call_cases::all();
-    slip_cases::all();
+    list_cases::all();
+    list_refusals::all();
+    server_cases::all();
 }

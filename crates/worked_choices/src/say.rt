@@ -1,4 +1,4 @@
-// What is printed: words, numbers, versions, refusals.
+// What is printed: words, versions, refusals.
 use libc::STDOUT_FILENO;
 use refusals::Call;
 use refusals::Close;
@@ -8,7 +8,7 @@ pub(crate) fn text(words: &[u8]) {
     io::write_all(STDOUT_FILENO, words);
 }
 
-pub(crate) fn number(value: u64) {
+fn number(value: u64) {
     io::print_decimal(STDOUT_FILENO, value);
 }
 
@@ -16,18 +16,6 @@ pub(crate) fn number(value: u64) {
 pub(crate) fn version(words: &[u8], version: u32) {
     text(words);
     number(version as u64);
-}
-
-// The first versions of a list, as many as `count`, each behind a space.
-pub(crate) fn versions(list: &[u32], count: usize) {
-    let mut i = 0;
-    while i < list.len() {
-        if count <= i {
-            return;
-        }
-        version(b" ", list[i]);
-        i += 1;
-    }
 }
 
 // The number of a refusal, and its close code if it has one.

@@ -1,11 +1,9 @@
-// Document 01's worked calls and byte strings of what is on the wire, and of the choice from a list, run through the
-// public functions: one line for each case, in the order of document 01's sections. "When the desk says no" has one
-// line for each number up to 42; the higher ones, the server and the client are in the program worked_choices.
+// Document 01's worked calls and byte strings of what is on the wire, run through the public functions: one line for
+// each case, in the order of document 01's sections. "When the desk says no" has one line for each number up to 37; the
+// higher ones are in the programs worked_choices and worked_attempts.
 mod call_cases; // "Calls from both sides of the line": Version Information
 mod datagram_cases; // "What a datagram may hold"
 mod information_cases; // "Version Information"
-mod list_cases; // "How a version is chosen": from a list
-mod list_refusals; // "When the desk says no": 40 to 42
 mod packet_cases; // "The packet the box sends back"
 mod say; // words, numbers, bytes and refusals, printed
 mod show; // one call of the library and one line
@@ -16,9 +14,7 @@ fn main() {
     datagram_cases::all();
     packet_cases::all();
     information_cases::all();
-    list_cases::all();
     wire_refusals::all();
-    list_refusals::all();
     call_cases::all();
     slip_cases::all();
 }

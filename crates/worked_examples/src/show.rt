@@ -1,11 +1,10 @@
-// One call of a reader, of a writer or of the choice from a list, and one line with its answer.
+// One call of a reader or of a writer, and one line with its answer.
 use crate::say::hex;
 use crate::say::number;
 use crate::say::place;
 use crate::say::refused;
 use crate::say::text;
 use crate::say::version;
-use choosing::choose_from;
 use information::Information;
 use information::Sender;
 use information::read_information;
@@ -15,7 +14,6 @@ use invariants::reader::read_header;
 use negotiation::write_version_negotiation;
 use refusals::Call;
 use refusals::Written;
-use versions::Choice;
 use versions::Span;
 
 fn long_form(number: u32, destination: Span, source: Span, rest: Span) {
@@ -127,16 +125,6 @@ pub(crate) fn received(label: &[u8], sender: Sender, bytes: &[u8]) {
             version(b"Chosen ", chosen);
             place(b", Available at ", available);
         }
-    }
-    text(b"\n");
-}
-
-// The choice from a list.
-pub(crate) fn choice(label: &[u8], table: &[u32], list: &[u32]) {
-    text(label);
-    match choose_from(table, list) {
-        Choice::Refused(refusal) => refused(refusal, Call::Reading),
-        Choice::Version(chosen) => version(b"choose ", chosen),
     }
     text(b"\n");
 }

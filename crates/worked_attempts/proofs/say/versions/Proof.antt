@@ -3,8 +3,8 @@ use Prim.Native.Nat.{_-_, _≤_}
 use native.Mathlib.Omega.{arith}
 use lib.ListN.{length}
 use borrow.Author.Needs.{needs}
-use Rattle.worked_choices.proofs.say.versions.Statement.{statement}
-use Rattle.worked_choices.proofs.say.versions.Tie as tie
+use Rattle.worked_attempts.proofs.say.versions.Statement.{statement}
+use Rattle.worked_attempts.proofs.say.versions.Tie as tie
 
 abbrev Inv-loop : tie.InvT-loop
 Inv-loop list count i₀ t4 i = i ≤ length list

@@ -1,4 +1,4 @@
-// "How a version is chosen": by the server, by the client.
+// "How a version is chosen": by the client.
 use crate::records;
 use crate::show_client::begin;
 use crate::show_client::datagram;
@@ -6,42 +6,12 @@ use crate::show_client::missing;
 use crate::show_client::outcome;
 use crate::show_client::own;
 use crate::show_client::processed;
-use crate::show_server::decision;
-use information::Presence;
 
 pub(crate) fn all() {
-    by_the_server();
     starts();
     own_lists();
     outcomes();
     attempt_with_pairs();
-}
-
-fn by_the_server() {
-    decision(
-        b"reads 3, accepts 4, 3, first flight in 9, malformed information: ",
-        &[4, 3],
-        &[],
-        9,
-        Presence::Given,
-        &[],
-    );
-    decision(
-        b"reads 3, accepts 4, 3, first flight in 3, information missing: ",
-        &[4, 3],
-        &[],
-        3,
-        Presence::Missing,
-        &[],
-    );
-    decision(
-        b"reads 3, accepts 4, first flight in 3, information missing: ",
-        &[4],
-        &[],
-        3,
-        Presence::Missing,
-        &[],
-    );
 }
 
 fn starts() {

@@ -1,7 +1,7 @@
 -- `open`: the start is not refused, so its record is what a start handed back.
 use borrow.Author.Needs.{needs}
-use Rattle.worked_choices.proofs.records.open.Statement.{statement}
-use Rattle.worked_choices.proofs.records.open.Tie as tie
+use Rattle.worked_attempts.proofs.records.open.Statement.{statement}
+use Rattle.worked_attempts.proofs.records.open.Tie as tie
 
 slice-aggregate-start : tie.Need-slice-aggregate-start
 slice-aggregate-start c = search needs

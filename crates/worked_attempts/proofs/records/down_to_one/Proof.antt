@@ -1,8 +1,8 @@
 -- `down_to_one`: the start keeps every rule, by computing.
-use Rattle.worked_choices.proofs.Accepted as accepted
+use Rattle.worked_attempts.proofs.Accepted as accepted
 use borrow.Author.Needs.{needs}
-use Rattle.worked_choices.proofs.records.down_to_one.Statement.{statement}
-use Rattle.worked_choices.proofs.records.down_to_one.Tie as tie
+use Rattle.worked_attempts.proofs.records.down_to_one.Statement.{statement}
+use Rattle.worked_attempts.proofs.records.down_to_one.Tie as tie
 
 slice-aggregate-open : tie.Need-slice-aggregate-open
 slice-aggregate-open c = search needs
