@@ -86,7 +86,7 @@ Counted a =
 opened-counts : (x : Input) → isAccepted x ≡ true → Counted (opened x)
 unfolding opened
 opened-counts x h =
-    let table = not-broken (not (tableKeepsRule (x .table))) (λ e. simp e) h in
+    let table = not-broken (not (tableKeepsRule (x .table))) (λ e. simp (e, and-false)) h in
     let destination = not-broken (ltb maxID (length (x .destination))) (λ e. simp (e, and-false)) h in
     let source = not-broken (ltb maxID (length (x .source))) (λ e. simp (e, or-true, and-false)) h in
     let counts = table-counts (x .table) (not-false _ table) in
