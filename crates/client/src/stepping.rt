@@ -61,6 +61,19 @@ fn changed(attempt: Attempt, attempted: u32, acted: bool, heard: bool, end: End)
     }
 }
 
+// The record after an ending, which changes the end mark alone.
+fn end_with(attempt: Attempt, end: End) -> Attempt
+    ensures { λ r. ⌜ r ≡ ended attempt end ⌝ }
+{
+    changed(
+        attempt,
+        attempt.attempted,
+        attempt.acted,
+        attempt.heard,
+        end,
+    )
+}
+
 // A refusal that leaves the attempt unchanged.
 fn keep(attempt: Attempt, refusal: Refusal) -> Stepped
     ensures { λ r. ⌜ shown r ≡ unchanged attempt (refusal .0) ⌝ }
@@ -76,13 +89,7 @@ fn close(attempt: Attempt, refusal: Refusal) -> Stepped
     ensures { λ r. ⌜ shown r ≡ closed attempt (refusal .0) ⌝ }
 {
     let end = End::Closed(refusal.0);
-    let next = changed(
-        attempt,
-        attempt.attempted,
-        attempt.acted,
-        attempt.heard,
-        end,
-    );
+    let next = end_with(attempt, end);
     Stepped {
         attempt: next,
         answer: Answer::Refused(refusal),
@@ -93,13 +100,7 @@ fn complete(attempt: Attempt, version: u32) -> Stepped
     ensures { λ r. ⌜ shown r ≡ after (ended attempt (Completed version)) (completes version) ⌝ }
 {
     let end = End::Completed(version);
-    let next = changed(
-        attempt,
-        attempt.attempted,
-        attempt.acted,
-        attempt.heard,
-        end,
-    );
+    let next = end_with(attempt, end);
     Stepped {
         attempt: next,
         answer: Answer::Completed(version),
