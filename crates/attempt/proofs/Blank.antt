@@ -12,7 +12,7 @@ use borrow.Author.Tests.{ltb-false, not-false}
 use Rattle.refusals.specs.Rule.{Rule, Rule._when_, lowest}
 use Rattle.versions.proofs.Lists.{table-counts}
 use Rattle.refusals.proofs.Rules.{lowest-any}
-use Rattle.versions.specs.Choice.{preferred}
+use Rattle.choosing.specs.Choice.{preferred}
 use Rattle.versions.specs.Limits.{maxTable}
 use Rattle.versions.specs.Table.{tableKeepsRule}
 use Rattle.invariants.specs.Header.{listed}

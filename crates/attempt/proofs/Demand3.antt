@@ -15,9 +15,9 @@ use lib.ListN.{length}
 use borrow.Author.Tests.{eqb-true, eq-eqb}
 use Rattle.refusals.proofs.Rules.{both-true, lowest-clear}
 use Rattle.refusals.specs.Reply.{Reply.answered}
-use Rattle.versions.specs.Choice.{preferred}
+use Rattle.choosing.specs.Choice.{preferred}
 use Rattle.versions.specs.Table.{elem}
-use Rattle.versions.proofs.Laws.{elem-append, preferred-by-membership}
+use Rattle.choosing.proofs.Laws.{elem-append, preferred-by-membership}
 use Rattle.attempt.specs.Attempt.{isCompleted}
 use Rattle.attempt.specs.Demand.{actedWith, Handshake, outcomeAt, firstOutcome, VersionInformation, informationOf, Good, CompletedAgainst}
 use Rattle.attempt.specs.Events.{Handed, run}

@@ -10,10 +10,10 @@ use lib.ListN.{length, drop, replicate}
 use lib.Seq.{take-append-seam}
 use Rattle.refusals.specs.Rule.{Rule, Rule._when_, lowest, clear}
 use Rattle.refusals.proofs.Rules.{clear-append, lowest-clear, lowest-applies, lowest-any}
-use Rattle.versions.specs.Choice.{preferred}
+use Rattle.choosing.specs.Choice.{preferred}
 use Rattle.versions.specs.Limits.{maxTable}
 use Rattle.versions.specs.Table.{elem}
-use Rattle.versions.proofs.Laws.{preferred-held}
+use Rattle.choosing.proofs.Laws.{preferred-held}
 use Rattle.invariants.specs.Header.{isReadableNegotiation, listed}
 use Rattle.information.specs.Information.{chosenOf, availableOf, formRules}
 use Rattle.information.specs.declared.Presence.{Presence}

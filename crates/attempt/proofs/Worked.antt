@@ -8,11 +8,11 @@ use Rattle.refusals.specs.Close.{closeOf, codeIn}
 use Rattle.refusals.specs.Reply.{Reply, Reply.answered, refuse}
 use Rattle.refusals.specs.Table.{table}
 use Rattle.refusals.specs.declared.Call.the-variants.{Reading}
-use Rattle.versions.specs.Choice.{choose, preferred}
+use Rattle.choosing.specs.Choice.{choose, preferred}
 use Rattle.versions.specs.Pairs.{paired, pairKeepsRule, eachPairKeepsRule, pairsKeepRule}
 use Rattle.versions.specs.Table.{elem, entriesKeepRule, tableKeepsRule}
 use Rattle.versions.specs.Version.{reserved, usable}
-use Rattle.versions.specs.Wire.{entries, listBytes}
+use Rattle.lists.specs.Wire.{entries, listBytes}
 use Rattle.invariants.specs.Header.{isReadableNegotiation}
 use Rattle.information.specs.Information.{informationBytes}
 use Rattle.information.specs.declared.Presence.the-variants.{Missing, Given}

@@ -7,7 +7,7 @@ use mathlib.Core.Logic.{_≢_}
 use mathlib.Core.Path.{_≡_}
 use lib.Dec.{eqb}
 use Rattle.refusals.specs.Rule.{Rule._when_, clear}
-use Rattle.versions.specs.Choice.{preferred}
+use Rattle.choosing.specs.Choice.{preferred}
 use Rattle.versions.specs.Table.{elem}
 use Rattle.invariants.specs.Header.{isReadableNegotiation, listed}
 use Rattle.information.specs.Information.{chosenOf, availableOf, formRules}

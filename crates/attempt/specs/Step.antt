@@ -8,7 +8,7 @@ use lib.ListN.{length}
 use Rattle.refusals.specs.Reply.{Reply, Reply.answered, refuse}
 use Rattle.refusals.specs.Rule.{Rule, Rule._when_, lowest}
 use Rattle.refusals.specs.declared.Call.the-variants.{Reading}
-use Rattle.versions.specs.Choice.{preferred}
+use Rattle.choosing.specs.Choice.{preferred}
 use Rattle.versions.specs.Limits.{maxTable}
 use Rattle.versions.specs.Table.{elem}
 use Rattle.invariants.specs.Header.{isReadableNegotiation, destinationID, sourceID, listed}

@@ -8,7 +8,7 @@ use mathlib.Core.Path.{_≡_, refl, sym, ap, _∙_}
 use lib.Dec.{eqb, leb}
 use Rattle.refusals.specs.Rule.{Rule, Rule._when_, lowest}
 use Rattle.refusals.proofs.Rules.{both-true, lowest-any}
-use Rattle.versions.specs.Choice.{preferred}
+use Rattle.choosing.specs.Choice.{preferred}
 use Rattle.versions.specs.Limits.{maxTable}
 use Rattle.invariants.specs.Header.{listed}
 use Rattle.information.specs.declared.Presence.{Presence}

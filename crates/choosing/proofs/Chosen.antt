@@ -1,15 +1,17 @@
 -- `choose` along the code of a choice: its refusals in order, then what is preferred.
-use Prim.Native.Nat.{ℕ, _<_, _≤_}
-use mathlib.Core.Bool.{false}
+use Prim.Native.Nat.{ℕ, _+_, _<_, _≤_}
+use mathlib.Core.Bool.{true, false}
 use mathlib.Core.List.{List}
+use mathlib.Core.Option.{Option.none, Option.some}
 use mathlib.Core.Path.{_≡_}
-use lib.ListN.{length}
+use lib.ListN.{length, drop, getD, drop-of-length-le}
 use borrow.Author.Tests.{lt-ltb, le-ltb}
 use Rattle.refusals.specs.Reply.{refuse}
 use Rattle.refusals.specs.declared.Call.the-variants.{Reading}
-use Rattle.versions.specs.Choice.{choose}
-use Rattle.versions.specs.Limits.{maxList}
-use Rattle.versions.specs.Table.{tableKeepsRule}
+use Rattle.choosing.specs.Choice.{choose, preferred}
+use Rattle.lists.specs.Limits.{maxList}
+use Rattle.versions.specs.Table.{elem, tableKeepsRule}
+use Rattle.versions.proofs.Lists.{drop-next}
 
 module _ (table list : List ℕ) where
   pub list-too-long : maxList < length list → choose table list ≡ refuse Reading 40
@@ -19,3 +21,17 @@ module _ (table list : List ℕ) where
   pub bad-table : length list ≤ maxList → tableKeepsRule table ≡ false → choose table list ≡ refuse Reading 41
   unfolding choose
   bad-table l t = rw (le-ltb _ _ l, t)
+
+-- `preferred`, from a list
+module _ (list table : List ℕ) (i : ℕ) where
+  pub preferred-here : i < length table → elem (getD table i 0) list ≡ true → preferred (drop i table) list ≡ some (getD table i 0)
+  unfolding preferred
+  preferred-here h e = rw (drop-next table i 0 h, e)
+
+  pub preferred-next : i < length table → elem (getD table i 0) list ≡ false → preferred (drop i table) list ≡ preferred (drop (i + 1) table) list
+  unfolding preferred
+  preferred-next h e = rw (drop-next table i 0 h, e)
+
+  pub preferred-end : length table ≤ i → preferred (drop i table) list ≡ none
+  unfolding preferred
+  preferred-end h = rw (drop-of-length-le table h)

@@ -1,1 +1,4 @@
 pub mod Chosen
+pub mod Laws
+pub mod Told
+pub mod Worked

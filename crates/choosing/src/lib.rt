@@ -1,15 +1,20 @@
 // The choice of a version: the first entry of the table that occurs in the list.
 ghost use mathlib.Core.Path.{_≡_};
-ghost use Rattle.versions.specs.Choice.{choose, choiceReply, orNothingInCommon, preferred};
-ghost use Rattle.versions.specs.Wire.{entries, entryReply};
+ghost use Rattle.choosing.specs.Choice.{choose, choiceReply, orNothingInCommon, preferred};
+ghost use Rattle.lists.specs.Wire.{entries, entryReply};
 use lists::contains_in_bytes;
 use refusals::Refusal;
-use versions::Choice;
-use versions::Entry;
-use versions::MAX_LIST;
-use versions::VERSION_BYTES;
+use lists::Entry;
+use lists::MAX_LIST;
+use lists::VERSION_BYTES;
 use versions::table::contains;
 use versions::table::is_table;
+
+// What a choice from a list answers: a refusal (40, 41, 42), or the chosen version.
+pub enum Choice {
+    Refused(Refusal),
+    Version(u32),
+}
 
 // The first entry of any table that occurs in the list, or nothing. It judges neither of them.
 pub fn prefer(table: &[u32], list: &[u32]) -> Entry

@@ -6,9 +6,9 @@ use mathlib.Core.Option.{Option.none, Option.some}
 use mathlib.Core.Path.{_≡_}
 use native.Mathlib.Omega.{arith}
 use lib.ListN.{length, take, drop}
-use Rattle.versions.specs.Choice.{preferred}
+use Rattle.choosing.specs.Choice.{preferred}
 use Rattle.versions.specs.Table.{elem}
-use Rattle.versions.specs.declared.Span.{Span}
+use Rattle.lists.specs.declared.Span.{Span}
 use Rattle.versions.proofs.Lists.{part-rest}
 use Rattle.invariants.specs.Header.{isReadableNegotiation, destinationLength, sourceLength, sourceStart, restStart, destinationID, sourceID, restOf, listed}
 use Rattle.attempt.specs.Attempt.{tableOf, destinationOf, sourceOf, isOpen, put}

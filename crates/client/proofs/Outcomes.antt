@@ -7,7 +7,7 @@ use Rattle.refusals.specs.Reply.{refuse}
 use Rattle.refusals.specs.Rule.{lowest}
 use Rattle.refusals.specs.declared.Call.the-variants.{Reading}
 use Rattle.refusals.proofs.Rules.{lowest-append}
-use Rattle.versions.specs.declared.Span.{Span}
+use Rattle.lists.specs.declared.Span.{Span}
 use Rattle.information.specs.Information.{chosenOf, availableOf, formRules, senderRules, versionsIn, readInformation}
 use Rattle.information.specs.declared.Presence.{Presence}
 use Rattle.information.specs.declared.Presence.the-variants.{Given}

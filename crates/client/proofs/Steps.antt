@@ -10,13 +10,13 @@ use lib.Dec.{eqb, leb}
 use lib.ListN.{length}
 use Rattle.refusals.specs.Rule.{Rule._when_, lowest}
 use Rattle.refusals.proofs.Rules.{both-true}
-use Rattle.versions.specs.Choice.{preferred}
+use Rattle.choosing.specs.Choice.{preferred}
 use Rattle.versions.specs.Limits.{maxTable}
 use Rattle.attempt.specs.Limits.{maxID, notARecord}
 use Rattle.versions.specs.Table.{elem}
-use Rattle.versions.specs.Wire.{entries, versionBytes}
-use Rattle.versions.proofs.Entries.{length-entries}
-use Rattle.versions.proofs.Laws.{preferred-joined}
+use Rattle.lists.specs.Wire.{entries, versionBytes}
+use Rattle.lists.proofs.Entries.{length-entries}
+use Rattle.choosing.proofs.Laws.{preferred-joined}
 use Rattle.attempt.specs.Attempt.{tableOf, ownOf, isOpen, put, ended}
 use Rattle.attempt.specs.Step.{After, unchanged, closed, after, Effect.notes, Effect.completes, picks, outcomeRules, missingRules, onProcessed, stepOf, stepOfAny, countsFit}
 use Rattle.attempt.specs.declared.Attempt.{Attempt}

@@ -5,7 +5,7 @@ use mathlib.Core.Bool.{true}
 use mathlib.Core.List.{List}
 use mathlib.Core.Path.{_≡_}
 use lib.ListN.{length}
-use Rattle.versions.specs.declared.Span.{Span}
+use Rattle.lists.specs.declared.Span.{Span}
 use Rattle.invariants.specs.Header.{isReadableNegotiation, destinationLength, sourceStart, restStart, span}
 
 pub record Parts (datagram : List ℕ) (destination source list : Span) : Type 0 where

@@ -5,9 +5,9 @@ ghost use mathlib.Core.Path.{_≡_};
 ghost use Prim.Native.Nat.{_≤_};
 ghost use lib.ListN.{length, take};
 ghost use Rattle.refusals.specs.Rule.{lowest};
-ghost use Rattle.versions.specs.Choice.{preferred};
+ghost use Rattle.choosing.specs.Choice.{preferred};
 ghost use Rattle.versions.specs.Limits.{maxTable};
-ghost use Rattle.versions.specs.Wire.{entries, entryReply};
+ghost use Rattle.lists.specs.Wire.{entries, entryReply};
 ghost use Rattle.information.specs.declared.Presence.the-variants.{Given};
 ghost use Rattle.attempt.specs.Attempt.{put, ended, isOpen, destinationOf, sourceOf};
 ghost use Rattle.attempt.specs.Events.{Reachable};
@@ -32,10 +32,10 @@ use invariants::Header;
 use invariants::reader::read_header;
 use lists::contains_in_bytes;
 use refusals::Refusal;
-use versions::Entry;
+use lists::Entry;
 use versions::MAX_TABLE;
-use versions::Span;
-use versions::VERSION_BYTES;
+use lists::Span;
+use lists::VERSION_BYTES;
 
 // The record with the fields that an event may change; every other field stays.
 fn changed(attempt: Attempt, attempted: u32, acted: bool, heard: bool, end: End) -> Attempt

@@ -7,8 +7,8 @@ use native.Mathlib.Omega.{arith}
 use native.Mathlib.Nat.{le-refl}
 use lib.ListN.{length, take, drop, length-drop, drop-of-length-le}
 use lib.Seq.{drop-drop}
-use Rattle.versions.specs.Wire.{bytesOf, listBytes, versionBytes, afterPut}
-use Rattle.versions.proofs.Entries.{length-listBytes, afterPut-room}
+use Rattle.lists.specs.Wire.{bytesOf, listBytes, versionBytes, afterPut}
+use Rattle.lists.proofs.Entries.{length-listBytes, afterPut-room}
 use Rattle.versions.proofs.Lists.{part-rest}
 use Rattle.information.specs.Information.{informationBytes, informationLength}
 

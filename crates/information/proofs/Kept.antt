@@ -12,7 +12,7 @@ use Rattle.refusals.specs.Rule.{Rule, Rule._when_, judged}
 use Rattle.refusals.specs.declared.Call.{Call}
 use Rattle.refusals.specs.declared.Call.the-variants.{Reading, Writing}
 use Rattle.versions.specs.Table.{elem}
-use Rattle.versions.specs.Wire.{versionBytes}
+use Rattle.lists.specs.Wire.{versionBytes}
 use Rattle.information.specs.Information.{Found, isClient, chosenOf, availableOf, formRules, senderRules, foundIn, readInformation, informationBytes, informationLength, writeRules, informationToWrite}
 use Rattle.information.specs.Limits.{maxAvailable, maxInformation}
 use Rattle.information.specs.declared.Sender.{Sender}

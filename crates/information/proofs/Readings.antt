@@ -10,8 +10,8 @@ use Rattle.refusals.specs.Reply.{Reply.answered, refuse}
 use Rattle.refusals.specs.Rule.{Rule, lowest, clear}
 use Rattle.refusals.specs.declared.Call.the-variants.{Reading}
 use Rattle.refusals.proofs.Rules.{both-true, lowest-clear, lowest-number, answered-clear, answered-injective}
-use Rattle.versions.specs.Wire.{versionBytes}
-use Rattle.versions.specs.declared.Span.{Span}
+use Rattle.lists.specs.Wire.{versionBytes}
+use Rattle.lists.specs.declared.Span.{Span}
 use Rattle.versions.proofs.Lists.{part-rest}
 use Rattle.information.specs.Information.{Found, chosenOf, availableOf, formRules, senderRules, foundIn, versionsIn, readInformation}
 use Rattle.information.specs.declared.Sender.{Sender}

@@ -7,8 +7,8 @@ use mathlib.Core.Path.{_≡_, sym, ap, _∙_}
 use native.Mathlib.Omega.{arith}
 use lib.ListN.{length, drop, length-drop}
 use Rattle.refusals.specs.Reply.{Reply.answered}
-use Rattle.versions.specs.Wire.{entries, listBytes, versionBytes}
-use Rattle.versions.proofs.Entries.{allBelow, entries-listBytes, entries-step, length-entries, listBytes-entries, number-bytesOf}
+use Rattle.lists.specs.Wire.{entries, listBytes, versionBytes}
+use Rattle.lists.proofs.Entries.{allBelow, entries-listBytes, entries-step, length-entries, listBytes-entries, number-bytesOf}
 use Rattle.versions.proofs.Lists.{part-rest}
 use Rattle.information.specs.Information.{Found, chosenOf, availableOf, foundIn, versionsIn, readInformation, informationBytes, informationToWrite}
 use Rattle.information.specs.Limits.{maxInformation}

@@ -6,7 +6,7 @@ use lib.ListN.{replicate}
 use Rattle.refusals.specs.Reply.{Reply, Reply.answered, refuse}
 use Rattle.refusals.specs.declared.Call.the-variants.{Reading}
 use Rattle.versions.specs.Table.{elem}
-use Rattle.versions.specs.Wire.{entries}
+use Rattle.lists.specs.Wire.{entries}
 use Rattle.information.specs.Information.{Found, readInformation}
 use Rattle.information.specs.declared.Sender.the-variants.{Client}
 

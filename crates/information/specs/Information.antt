@@ -8,8 +8,8 @@ use Rattle.refusals.specs.Reply.{Reply, Reply.answered, refuse}
 use Rattle.refusals.specs.Rule.{Rule, Rule._when_, judged}
 use Rattle.refusals.specs.declared.Call.the-variants.{Reading, Writing}
 use Rattle.versions.specs.Table.{elem}
-use Rattle.versions.specs.Wire.{numberAt, entries, bytesOf, listBytes, versionBytes}
-use Rattle.versions.specs.declared.Span.{Span}
+use Rattle.lists.specs.Wire.{numberAt, entries, bytesOf, listBytes, versionBytes}
+use Rattle.lists.specs.declared.Span.{Span}
 use Rattle.information.specs.Limits.{maxAvailable, maxInformation}
 use Rattle.information.specs.declared.Information.{Information}
 use Rattle.information.specs.declared.Information.the-variants.{Refused, Read}

@@ -12,10 +12,10 @@ use Rattle.refusals.specs.Reply.{Reply, Reply.refused, Reply.answered, refuse}
 use Rattle.refusals.specs.Rule.{clear}
 use Rattle.refusals.specs.declared.Call.the-variants.{Reading}
 use Rattle.refusals.proofs.Rules.{both-true, lowest-clear, lowest-applies}
-use Rattle.versions.specs.Limits.{maxList}
-use Rattle.versions.specs.Wire.{versionBytes}
-use Rattle.versions.specs.declared.Span.{Span}
-use Rattle.versions.proofs.Entries.{length-entries}
+use Rattle.lists.specs.Limits.{maxList}
+use Rattle.lists.specs.Wire.{versionBytes}
+use Rattle.lists.specs.declared.Span.{Span}
+use Rattle.lists.proofs.Entries.{length-entries}
 use Rattle.invariants.specs.Header.{Form, Form.long, Form.short, Form.versionNegotiation, isLong, versionOf, destinationLength, sourceStart, restStart, restOf, listed, isVersionNegotiation, longTruncated, shortTruncated, truncated, notWhole, headerRules, span, formOf, readHeader, headerReply, isReadableNegotiation}
 use Rattle.invariants.specs.Limits.{maxDatagram}
 use Rattle.invariants.specs.declared.Header.{Header}

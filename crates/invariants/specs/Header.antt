@@ -7,8 +7,8 @@ use lib.ListN.{length, getD, take, drop}
 use Rattle.refusals.specs.Reply.{Reply, Reply.answered, refuse}
 use Rattle.refusals.specs.Rule.{Rule, Rule._when_, judged, clear}
 use Rattle.refusals.specs.declared.Call.the-variants.{Reading}
-use Rattle.versions.specs.Wire.{numberAt, entries, versionBytes}
-use Rattle.versions.specs.declared.Span.{Span}
+use Rattle.lists.specs.Wire.{numberAt, entries, versionBytes}
+use Rattle.lists.specs.declared.Span.{Span}
 use Rattle.invariants.specs.Limits.{maxDatagram, maxConnectionID}
 use Rattle.invariants.specs.declared.Header.{Header}
 use Rattle.invariants.specs.declared.Header.the-variants.{Refused, Long, Short, VersionNegotiation}

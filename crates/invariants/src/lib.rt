@@ -4,7 +4,7 @@ mod fields; // the fields of a long form
 pub mod reader; // the header reader
 
 use refusals::Refusal;
-use versions::Span;
+use lists::Span;
 
 // The most bytes that a datagram has.
 pub const MAX_DATAGRAM: usize = 65535;

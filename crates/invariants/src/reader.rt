@@ -4,7 +4,7 @@ ghost use mathlib.Core.Bool.{true, false, not, _||_};
 ghost use Prim.Native.Nat.{ℕ, _%_, _<_, _≤_};
 ghost use lib.Dec.{eqb};
 ghost use lib.ListN.{length};
-ghost use Rattle.versions.specs.Wire.{versionBytes};
+ghost use Rattle.lists.specs.Wire.{versionBytes};
 ghost use Rattle.invariants.specs.Header.{isLong, readHeader, headerReply};
 ghost use Rattle.invariants.specs.Limits.{maxDatagram};
 use crate::Header;
@@ -14,8 +14,8 @@ use crate::fields::destination_length;
 use crate::fields::source_length;
 use crate::fields::version_of;
 use refusals::Refusal;
-use versions::Span;
-use versions::VERSION_BYTES;
+use lists::Span;
+use lists::VERSION_BYTES;
 
 // The long form of a datagram of 1 to MAX_DATAGRAM bytes, whatever the told length.
 fn read_long(datagram: &[u8]) -> Header

@@ -5,9 +5,24 @@ ghost use mathlib.Core.List.{_++_};
 ghost use lib.Dec.{leb};
 ghost use lib.ListN.{length, take, drop};
 ghost use Rattle.versions.specs.Table.{elem};
-ghost use Rattle.versions.specs.Wire.{number, numberAt, entries, entryAt, entryReply, bytesOf, versionBytes, afterPut};
-use versions::Entry;
-use versions::VERSION_BYTES;
+ghost use Rattle.lists.specs.Wire.{number, numberAt, entries, entryAt, entryReply, bytesOf, versionBytes, afterPut};
+
+// The bytes that a version takes on the wire.
+pub const VERSION_BYTES: usize = 4;
+// The most entries that a list to choose from has.
+pub const MAX_LIST: usize = 16382;
+
+// The version at a place of a list on the wire, or nothing where the list ends before it.
+pub enum Entry {
+    Version(u32),
+    Nothing,
+}
+
+// Where a part of a byte string lies: from `start` up to, and not with, `end`.
+pub struct Span {
+    pub start: usize,
+    pub end: usize,
+}
 
 fn wide(byte: u8) -> u32
     ensures { λ r. ⌜ r ≡ byte ⌝ }

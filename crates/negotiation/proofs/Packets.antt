@@ -16,10 +16,10 @@ use Rattle.refusals.proofs.Rules.{both-true, lowest-clear, lowest-applies}
 use Rattle.versions.specs.Limits.{maxTable}
 use Rattle.versions.specs.Table.{elem, entriesKeepRule, tableKeepsRule}
 use Rattle.versions.specs.Version.{reserved, usable}
-use Rattle.versions.specs.Wire.{entries, listBytes, versionBytes}
-use Rattle.versions.specs.declared.Span.{Span}
+use Rattle.lists.specs.Wire.{entries, listBytes, versionBytes}
+use Rattle.lists.specs.declared.Span.{Span}
 use Rattle.versions.proofs.Lists.{part-rest, table-counts}
-use Rattle.versions.proofs.Entries.{allBelow, allBelow-head, entries-listBytes, length-listBytes}
+use Rattle.lists.proofs.Entries.{allBelow, allBelow-head, entries-listBytes, length-listBytes}
 use Rattle.invariants.specs.Header.{Form.versionNegotiation, span, isLong, versionOf, destinationLength, sourceLength, destinationID, sourceID, sourceStart, restStart, restOf, listed, longTruncated, notWhole, readHeader}
 use Rattle.invariants.specs.Limits.{maxConnectionID, maxDatagram}
 use Rattle.negotiation.specs.Limits.{maxUnusedBits}

@@ -12,7 +12,7 @@ use Rattle.refusals.specs.Reply.{Reply, Reply.refused, Reply.answered, refuse}
 use Rattle.refusals.specs.Rule.{Rule, Rule._when_, judged}
 use Rattle.refusals.specs.declared.Call.the-variants.{Reading, Writing}
 use Rattle.refusals.proofs.Rules.{both-true, answered-clear, answered-injective, lowest-clear}
-use Rattle.versions.specs.declared.Span.{Span}
+use Rattle.lists.specs.declared.Span.{Span}
 use Rattle.invariants.specs.Header.{Form, Form.long, Form.short, Form.versionNegotiation, isLong, versionOf, destinationLength, sourceLength, sourceStart, restStart, restOf, longTruncated, truncated, notWhole, headerRules, span, formOf, readHeader, headerReply}
 use Rattle.invariants.specs.Limits.{maxConnectionID, maxDatagram}
 use Rattle.invariants.specs.declared.Header.{Header}

@@ -14,8 +14,8 @@ use Rattle.refusals.specs.declared.Refusal.{Refusal}
 use Rattle.refusals.specs.declared.Written.{Written}
 use Rattle.refusals.specs.declared.Written.the-variants.{Refused, Count}
 use Rattle.refusals.proofs.Rules.{answered-clear, lowest-clear}
-use Rattle.versions.specs.Wire.{bytesOf, listBytes, versionBytes, afterPut}
-use Rattle.versions.proofs.Entries.{length-listBytes, afterPut-room}
+use Rattle.lists.specs.Wire.{bytesOf, listBytes, versionBytes, afterPut}
+use Rattle.lists.proofs.Entries.{length-listBytes, afterPut-room}
 use Rattle.invariants.specs.Header.{versionOf, destinationLength, sourceLength, destinationID, sourceID, restStart}
 use Rattle.negotiation.specs.Packet.{packetLength, packetFor, offerRules}
 use Rattle.negotiation.specs.Parts.{Lengths, countOf, offerAnswer}

@@ -9,7 +9,7 @@ use Rattle.refusals.specs.Reply.{Reply, Reply.answered}
 use Rattle.refusals.specs.Rule.{Rule, Rule._when_, judged}
 use Rattle.refusals.specs.declared.Call.the-variants.{Writing}
 use Rattle.versions.specs.Table.{elem, tableKeepsRule}
-use Rattle.versions.specs.Wire.{bytesOf, listBytes, versionBytes}
+use Rattle.lists.specs.Wire.{bytesOf, listBytes, versionBytes}
 use Rattle.invariants.specs.Header.{isLong, versionOf, destinationLength, sourceLength, destinationID, sourceID, longTruncated}
 use Rattle.invariants.specs.Limits.{maxDatagram}
 use Rattle.negotiation.specs.Limits.{maxUnusedBits}

@@ -8,7 +8,7 @@ use lib.ListN.{length}
 use Rattle.refusals.specs.Reply.{Reply, Reply.answered}
 use Rattle.refusals.specs.Rule.{judged}
 use Rattle.refusals.specs.declared.Call.the-variants.{Writing}
-use Rattle.versions.specs.Wire.{versionBytes}
+use Rattle.lists.specs.Wire.{versionBytes}
 use Rattle.invariants.specs.Header.{versionOf, destinationLength, sourceLength, restStart}
 use Rattle.invariants.specs.Limits.{maxConnectionID}
 use Rattle.negotiation.specs.Packet.{packetLength, packetFor, offerRules}

@@ -8,7 +8,7 @@ ghost use Rattle.refusals.specs.Reply.{Reply.answered};
 ghost use Rattle.refusals.specs.Rule.{judged};
 ghost use Rattle.refusals.specs.declared.Call.the-variants.{Writing};
 ghost use Rattle.refusals.specs.Written.{writtenReply, counted, leaves};
-ghost use Rattle.versions.specs.Wire.{bytesOf};
+ghost use Rattle.lists.specs.Wire.{bytesOf};
 ghost use Rattle.invariants.specs.Header.{versionOf};
 ghost use Rattle.invariants.specs.Limits.{maxConnectionID};
 ghost use Rattle.negotiation.specs.Limits.{maxUnusedBits};
@@ -19,7 +19,7 @@ use invariants::reader::read_header;
 use lists::put_list;
 use refusals::Refusal;
 use refusals::Written;
-use versions::VERSION_BYTES;
+use lists::VERSION_BYTES;
 use versions::table::contains;
 use versions::table::is_table;
 

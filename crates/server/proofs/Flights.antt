@@ -11,7 +11,7 @@ use Rattle.refusals.specs.Reply.{Reply, Reply.answered, refuse}
 use Rattle.refusals.specs.Rule.{Rule._when_, judged}
 use Rattle.refusals.specs.declared.Call.the-variants.{Reading}
 use Rattle.refusals.proofs.Rules.{lowest-append}
-use Rattle.versions.specs.declared.Span.{Span}
+use Rattle.lists.specs.declared.Span.{Span}
 use Rattle.versions.proofs.Lists.{drop-next}
 use Rattle.information.specs.Information.{chosenOf, availableOf, versionsIn, readInformation}
 use Rattle.information.specs.declared.Presence.the-variants.{Given}

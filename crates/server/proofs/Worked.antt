@@ -8,7 +8,7 @@ use Rattle.refusals.specs.declared.Call.the-variants.{Reading}
 use Rattle.versions.specs.Pairs.{paired, pairKeepsRule, eachPairKeepsRule, pairsKeepRule}
 use Rattle.versions.specs.Table.{elem, entriesKeepRule, tableKeepsRule}
 use Rattle.versions.specs.Version.{reserved, usable}
-use Rattle.versions.specs.Wire.{entries, listBytes}
+use Rattle.lists.specs.Wire.{entries, listBytes}
 use Rattle.information.specs.Information.{informationBytes}
 use Rattle.information.specs.declared.Presence.the-variants.{Missing, Given}
 use Rattle.server.specs.FirstFlight.{Act, Act.negotiate, Act.use-version, mayUse, firstAccepted, decide}

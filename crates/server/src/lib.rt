@@ -3,7 +3,7 @@ ghost use mathlib.Core.Bool.{cond};
 ghost use mathlib.Core.Path.{_≡_};
 ghost use Rattle.refusals.specs.Reply.{Reply.answered};
 ghost use Rattle.versions.specs.Table.{elem};
-ghost use Rattle.versions.specs.Wire.{entries};
+ghost use Rattle.lists.specs.Wire.{entries};
 ghost use Rattle.information.specs.declared.Presence.the-variants.{Given};
 ghost use Rattle.server.specs.FirstFlight.{Act.negotiate, Act.use-version, decisionReply, mayUse, firstAccepted, withInformation, decide};
 use information::Information;

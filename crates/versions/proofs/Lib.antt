@@ -1,5 +1,1 @@
-pub mod Entries
-pub mod Laws
 pub mod Lists
-pub mod Told
-pub mod Worked

@@ -3,7 +3,6 @@
 use Prim.Native.Nat.{ℕ, _+_, _-_, _<_, _≤_}
 use mathlib.Core.Bool.{true, false}
 use mathlib.Core.List.{List, [], _∷_}
-use mathlib.Core.Option.{Option.none, Option.some}
 use mathlib.Core.Path.{_≡_, ap}
 use native.Mathlib.Nat.{le-refl}
 use native.Mathlib.Numerals.{add-one}
@@ -12,7 +11,6 @@ use lib.Seq.{drop-cons, take-all}
 use borrow.Author.Tests.{eq-eqb, ne-eqb, leb-true}
 use lib.Dec.{leb}
 use Rattle.refusals.proofs.Rules.{both-true}
-use Rattle.versions.specs.Choice.{preferred}
 use Rattle.versions.specs.Limits.{maxTable}
 use Rattle.versions.specs.Pairs.{fromOf, toOf, pairKeepsRule, eachPairKeepsRule, paired}
 use Rattle.versions.specs.Table.{elem, entriesKeepRule, tableKeepsRule}
@@ -100,17 +98,3 @@ module _ (a b : ℕ) (ps : List (List ℕ)) (i : ℕ) where
   pub paired-end : length ps ≤ i → paired (drop i ps) a b ≡ false
   unfolding paired
   paired-end h = rw (drop-of-length-le ps h)
-
--- `preferred`, from a list
-module _ (list table : List ℕ) (i : ℕ) where
-  pub preferred-here : i < length table → elem (getD table i 0) list ≡ true → preferred (drop i table) list ≡ some (getD table i 0)
-  unfolding preferred
-  preferred-here h e = rw (drop-next table i 0 h, e)
-
-  pub preferred-next : i < length table → elem (getD table i 0) list ≡ false → preferred (drop i table) list ≡ preferred (drop (i + 1) table) list
-  unfolding preferred
-  preferred-next h e = rw (drop-next table i 0 h, e)
-
-  pub preferred-end : length table ≤ i → preferred (drop i table) list ≡ none
-  unfolding preferred
-  preferred-end h = rw (drop-of-length-le table h)

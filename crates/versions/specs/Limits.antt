@@ -1,4 +1,4 @@
--- The limits of tables and lists, each named once. A proof holds for the name, not for the number.
+-- The limits of tables, each named once. A proof holds for the name, not for the number.
 use Prim.Native.Nat.{ℕ}
 
 -- Document 01: "A table of versions has 1 to 16 entries"
@@ -8,7 +8,3 @@ maxTable = 16
 -- Document 01: "A table of compatible pairs (from, to) has 0 to 64 pairs"
 abbrev pub maxPairs : ℕ
 maxPairs = 64
-
--- Document 01, refusal 40: "list to choose from over 16,382 entries"
-abbrev pub maxList : ℕ
-maxList = 16382

@@ -6,7 +6,7 @@ use choosing::choose_from;
 use information::Presence;
 use server::Decision;
 use server::choose_after_first_flight;
-use versions::Choice;
+use choosing::Choice;
 
 // The choice of a server that reads 3, after a first flight.
 pub(crate) fn decision(

@@ -3,7 +3,7 @@ use libc::STDOUT_FILENO;
 use refusals::Call;
 use refusals::Close;
 use refusals::Refusal;
-use versions::Span;
+use lists::Span;
 
 pub(crate) fn text(words: &[u8]) {
     io::write_all(STDOUT_FILENO, words);

@@ -14,7 +14,7 @@ use invariants::reader::read_header;
 use negotiation::write_version_negotiation;
 use refusals::Call;
 use refusals::Written;
-use versions::Span;
+use lists::Span;
 
 fn long_form(number: u32, destination: Span, source: Span, rest: Span) {
     version(b"long form, version ", number);

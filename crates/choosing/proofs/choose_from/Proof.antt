@@ -2,9 +2,9 @@
 use mathlib.Core.Path.{sym, ap, _∙_}
 use borrow.Author.Needs.{needs}
 use borrow.Author.Tests.{not-true, not-false}
-use Rattle.versions.specs.Choice.{orNothingInCommon}
+use Rattle.choosing.specs.Choice.{orNothingInCommon}
 use Rattle.choosing.proofs.Chosen.{list-too-long, bad-table}
-use Rattle.versions.proofs.Laws.{choose-preferred}
+use Rattle.choosing.proofs.Laws.{choose-preferred}
 use Rattle.choosing.proofs.choose_from.Statement.{statement}
 use Rattle.choosing.proofs.choose_from.Tie as tie
 

@@ -13,7 +13,7 @@ use Rattle.refusals.specs.Reply.{Reply.answered}
 use Rattle.refusals.specs.Rule.{Rule._when_, judged}
 use Rattle.refusals.specs.declared.Call.the-variants.{Reading}
 use Rattle.versions.specs.Table.{elem}
-use Rattle.versions.specs.Wire.{versionBytes}
+use Rattle.lists.specs.Wire.{versionBytes}
 use Rattle.versions.proofs.Lists.{part-rest}
 use Rattle.information.specs.Information.{readInformation, isClient, chosenOf, availableOf, senderRules, foundIn}
 use Rattle.information.specs.Limits.{maxInformation}

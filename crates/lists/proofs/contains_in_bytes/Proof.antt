@@ -5,8 +5,8 @@ use native.Mathlib.Omega.{arith}
 use lib.ListN.{length, drop}
 use denote.Ref.{now}
 use Rattle.versions.specs.Table.{elem}
-use Rattle.versions.specs.Wire.{entries, numberAt, versionBytes}
-use Rattle.versions.proofs.Entries.{elem-found, elem-passed, elem-end}
+use Rattle.lists.specs.Wire.{entries, numberAt, versionBytes}
+use Rattle.lists.proofs.Entries.{elem-found, elem-passed, elem-end}
 use Rattle.lists.proofs.contains_in_bytes.Statement.{statement}
 use Rattle.lists.proofs.contains_in_bytes.Tie as tie
 

@@ -3,7 +3,7 @@ use mathlib.Core.Path.{sym, ap, _∙_}
 use mathlib.Core.Option.{Option.some}
 use native.Mathlib.Omega.{arith}
 use borrow.Author.Needs.{needs}
-use Rattle.versions.proofs.Entries.{entryAt-some, entryAt-none}
+use Rattle.lists.proofs.Entries.{entryAt-some, entryAt-none}
 use Rattle.lists.proofs.entry_at.Statement.{statement}
 use Rattle.lists.proofs.entry_at.Tie as tie
 

@@ -1,7 +1,7 @@
 -- `put_at`: four stores one after the other are the version's four bytes at the place.
 use native.Mathlib.Omega.{arith}
 use lib.ListN.{length-set}
-use Rattle.versions.proofs.Entries.{put-four}
+use Rattle.lists.proofs.Entries.{put-four}
 use borrow.Author.Needs.{needs}
 use Rattle.lists.proofs.put_at.Statement.{statement}
 use Rattle.lists.proofs.put_at.Tie as tie

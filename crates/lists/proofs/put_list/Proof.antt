@@ -6,8 +6,8 @@ use native.Mathlib.Omega.{arith}
 use lib.ListN.{length, take, drop}
 use borrow.Author.Tests.{le-leb, lt-leb}
 use denote.Ref.{now}
-use Rattle.versions.specs.Wire.{listBytes, versionBytes}
-use Rattle.versions.proofs.Entries.{put-step, put-all, afterPut-room, afterPut-none}
+use Rattle.lists.specs.Wire.{listBytes, versionBytes}
+use Rattle.lists.proofs.Entries.{put-step, put-all, afterPut-room, afterPut-none}
 use Rattle.lists.proofs.put_list.Statement.{statement}
 use Rattle.lists.proofs.put_list.Tie as tie
 

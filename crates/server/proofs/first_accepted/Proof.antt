@@ -5,7 +5,7 @@ use native.Mathlib.Omega.{arith}
 use borrow.Author.Needs.{needs}
 use lib.ListN.{length, drop}
 use Rattle.refusals.specs.Reply.{Reply.answered}
-use Rattle.versions.specs.Wire.{entries}
+use Rattle.lists.specs.Wire.{entries}
 use Rattle.server.specs.FirstFlight.{firstAccepted}
 use Rattle.server.proofs.Flights.{accepted-here, accepted-next, accepted-end}
 use Rattle.server.proofs.first_accepted.Statement.{statement}

@@ -4,7 +4,7 @@ use borrow.Author.Needs.{needs}
 use borrow.Author.Tests.{not-true, not-false, eq-eqb, ne-eqb}
 use denote.Ref.{now}
 use Rattle.versions.specs.Table.{elem}
-use Rattle.versions.specs.Wire.{entries}
+use Rattle.lists.specs.Wire.{entries}
 use Rattle.server.specs.FirstFlight.{mayUse}
 use Rattle.server.proofs.may_use.Statement.{statement}
 use Rattle.server.proofs.may_use.Tie as tie

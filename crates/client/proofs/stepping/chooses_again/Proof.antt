@@ -4,7 +4,7 @@ use mathlib.Core.Option.{Option}
 use mathlib.Core.Path.{sym, ap, _∙_}
 use Prim.Native.Nat.{ℕ}
 use denote.Ref.{now}
-use Rattle.versions.specs.Wire.{entries, entryReply}
+use Rattle.lists.specs.Wire.{entries, entryReply}
 use Rattle.attempt.specs.Step.{picks}
 use Rattle.client.proofs.Steps.{added-some, added-none}
 use Rattle.client.proofs.stepping.chooses_again.Statement.{statement}

@@ -11,7 +11,7 @@ use borrow.Author.Tests.{not-true, not-false, eq-eqb, ne-eqb}
 use denote.Ref.{now}
 use Rattle.versions.specs.Limits.{maxTable}
 use Rattle.versions.specs.Table.{elem}
-use Rattle.versions.specs.Wire.{entries}
+use Rattle.lists.specs.Wire.{entries}
 use Rattle.attempt.specs.Attempt.{ownOf}
 use Rattle.client.proofs.Steps.{counts-table, some-entries, no-entries, not-ours, not-in-use, never-acted, none-available, downgraded, all-well}
 use Rattle.client.proofs.stepping.judge_outcome.Statement.{statement}

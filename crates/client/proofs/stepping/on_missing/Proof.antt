@@ -2,7 +2,7 @@
 use borrow.Author.Needs.{needs}
 use borrow.Author.Tests.{eq-eqb, ne-eqb}
 use mathlib.Core.Path.{_∙_}
-use Rattle.versions.specs.Wire.{entries}
+use Rattle.lists.specs.Wire.{entries}
 use Rattle.client.proofs.Steps.{missing-other, missing-one, missing-not-in-use, missing-in-use}
 use Rattle.client.proofs.stepping.on_missing.Statement.{statement}
 use Rattle.client.proofs.stepping.on_missing.Tie as tie

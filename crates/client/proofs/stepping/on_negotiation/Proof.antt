@@ -7,10 +7,10 @@ use Prim.Native.Nat.{ℕ}
 use native.Mathlib.Omega.{arith}
 use denote.Ref.{now}
 use lib.ListN.{length, length-take}
-use Rattle.versions.specs.Choice.{preferred}
+use Rattle.choosing.specs.Choice.{preferred}
 use Rattle.versions.specs.Limits.{maxTable}
 use Rattle.versions.specs.Table.{elem}
-use Rattle.versions.specs.Wire.{entries, entryReply}
+use Rattle.lists.specs.Wire.{entries, entryReply}
 use Rattle.invariants.specs.Header.{listed}
 use Rattle.attempt.specs.Attempt.{tableOf, destinationOf, sourceOf, isOpen}
 use Rattle.attempt.specs.Step.{otherConnection}

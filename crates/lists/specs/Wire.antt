@@ -6,8 +6,8 @@ use mathlib.Core.List.{List, [], _∷_, _++_}
 use mathlib.Core.Option.{Option, Option.none, Option.some}
 use lib.Dec.{leb}
 use lib.ListN.{length, drop, getD}
-use Rattle.versions.specs.declared.Entry.{Entry}
-use Rattle.versions.specs.declared.Entry.the-variants.{Version, Nothing}
+use Rattle.lists.specs.declared.Entry.{Entry}
+use Rattle.lists.specs.declared.Entry.the-variants.{Version, Nothing}
 
 -- How many bytes a version takes
 abbrev pub versionBytes : ℕ

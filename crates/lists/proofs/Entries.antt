@@ -11,8 +11,8 @@ use lib.Dec.{ltb}
 use lib.ListN.{length, take, drop, getD, set, length-drop}
 use lib.Seq.{getD-drop, drop-drop, take-suc, take-length, take-at, drop-at, length-take-le, sets-eq}
 use borrow.Author.Tests.{ltb-true, lt-ltb, le-leb, lt-leb, eq-eqb, ne-eqb}
 use Rattle.versions.specs.Table.{elem}
-use Rattle.versions.specs.Wire.{number, numberAt, versionBytes, entries, bytesOf, listBytes, entryAt, afterPut}
+use Rattle.lists.specs.Wire.{number, numberAt, versionBytes, entries, bytesOf, listBytes, entryAt, afterPut}
 
 -- ---- the entries by place
 

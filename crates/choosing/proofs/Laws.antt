@@ -16,10 +16,10 @@ use lib.Dec.{eqb}
 use lib.ListN.{length, length-append}
 use Rattle.refusals.specs.Reply.{Reply, Reply.refused, Reply.answered, refuse}
 use Rattle.refusals.specs.declared.Call.the-variants.{Reading}
-use Rattle.versions.specs.Choice.{choose, preferred, orNothingInCommon}
-use Rattle.versions.specs.Laws.{SameHeld, choiceList}
-use Rattle.versions.specs.Limits.{maxList}
+use Rattle.choosing.specs.Choice.{choose, preferred, orNothingInCommon}
+use Rattle.choosing.specs.Laws.{SameHeld, choiceList}
+use Rattle.lists.specs.Limits.{maxList}
 use Rattle.versions.specs.Table.{elem, tableKeepsRule}
 
 -- What a list holds
 

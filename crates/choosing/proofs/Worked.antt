@@ -6,9 +6,9 @@ use mathlib.Core.Path.{_≡_, refl}
 use lib.ListN.{replicate}
 use Rattle.refusals.specs.Reply.{Reply.answered, refuse}
 use Rattle.refusals.specs.declared.Call.the-variants.{Reading}
-use Rattle.versions.specs.Choice.{choose, preferred}
+use Rattle.choosing.specs.Choice.{choose, preferred}
 use Rattle.versions.specs.Table.{elem, entriesKeepRule, tableKeepsRule}
 use Rattle.versions.specs.Version.{reserved, usable}
 
 -- "table 14, 12, 10"
 abbrev pub table : List ℕ

@@ -8,10 +8,10 @@ use lib.ListN.{length}
 use Rattle.refusals.specs.Reply.{Reply, Reply.answered, refuse}
 use Rattle.refusals.specs.Rule.{Rule, Rule._when_, judged}
 use Rattle.refusals.specs.declared.Call.the-variants.{Reading}
-use Rattle.versions.specs.Limits.{maxList}
+use Rattle.lists.specs.Limits.{maxList}
 use Rattle.versions.specs.Table.{elem, tableKeepsRule}
-use Rattle.versions.specs.declared.Choice.{Choice}
-use Rattle.versions.specs.declared.Choice.the-variants.{Refused, Version}
+use Rattle.choosing.specs.declared.Choice.{Choice}
+use Rattle.choosing.specs.declared.Choice.the-variants.{Refused, Version}
 
 -- Document 01, "From a list": "The first entry of the table that occurs in the list"
 unfoldable pub preferred : List ℕ → List ℕ → Option ℕ
