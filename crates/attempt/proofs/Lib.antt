@@ -7,3 +7,4 @@ pub mod Reaching
 pub mod Told
 pub mod Walks
 pub mod Worked
+pub mod Slices

@@ -25,25 +25,6 @@ fn word_of(table: [u32; MAX_TABLE], count: usize, rows: [u64; MAX_TABLE], versio
     0
 }
 
-// Whether the version is a table entry whose bit is set in the word.
-fn is_member(table: [u32; MAX_TABLE], count: usize, word: u64, version: u32) -> bool
-    requires { ⌜ count ≤ maxTable ⌝ }
-    ensures { λ r. ⌜ r ≡ elem version (members word (take count table)) ⌝ }
-{
-    let mut rest = word;
-    let mut i = 0;
-    while i < count {
-        if rest % 2 == 1 {
-            if table[i] == version {
-                return true;
-            }
-        }
-        rest = rest / 2;
-        i += 1;
-    }
-    false
-}
-
 // The table entries whose bits are set in the word.
 fn collect(table: [u32; MAX_TABLE], count: usize, word: u64) -> OwnList
     requires { ⌜ count ≤ maxTable ⌝ }
@@ -90,13 +71,44 @@ pub fn own_list(attempt: Attempt) -> OwnList
     collect(table, count, word)
 }
 
-// Whether a version is in the own list of an attempt, for any record value. It refuses nothing.
-pub fn is_own(attempt: Attempt, version: u32) -> bool
-    ensures { λ r. ⌜ r ≡ elem version (ownOf attempt) ⌝ }
+// The word of a version: that of its first place in the table, 0 where it has none.
+fn word_in(table: &[u32], rows: &[u64], version: u32) -> u64
+    requires { ⌜ length (now table) ≤ length (now rows) ⌝ }
+    ensures { λ r. ⌜ r ≡ wordOf (now (table .entry)) (now (rows .entry)) version ⌝ }
 {
-    let table = attempt.table;
-    let rows = attempt.rows;
-    let count = table_count(attempt);
-    let word = word_of(table, count, rows, attempt.attempted);
-    is_member(table, count, word, version)
+    let mut i = 0;
+    while i < table.len() {
+        if table[i] == version {
+            return rows[i];
+        }
+        i += 1;
+    }
+    0
+}
+
+// Whether the version is a table entry whose bit is set in the word.
+fn is_member(table: &[u32], word: u64, version: u32) -> bool
+    ensures { λ r. ⌜ r ≡ elem version (members word (now (table .entry))) ⌝ }
+{
+    let mut rest = word;
+    let mut i = 0;
+    while i < table.len() {
+        if rest % 2 == 1 {
+            if table[i] == version {
+                return true;
+            }
+        }
+        rest = rest / 2;
+        i += 1;
+    }
+    false
+}
+
+// Whether a version is in the own list for another, read from a table and its rows.
+pub fn is_own<'a>(table: &'a [u32], rows: &'a [u64], attempted: u32, version: u32) -> bool
+    requires { ⌜ length (now table) ≤ length (now rows) ⌝ }
+    ensures { λ r. ⌜ r ≡ elem version (members (wordOf (now (table .entry)) (now (rows .entry)) attempted) (now (table .entry))) ⌝ }
+{
+    let word = word_in(table, rows, attempted);
+    is_member(table, word, version)
 }

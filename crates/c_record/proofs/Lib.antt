@@ -1,2 +1,3 @@
 pub mod Lossless
 pub mod Records
+pub mod Applied

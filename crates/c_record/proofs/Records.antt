@@ -15,7 +15,7 @@ use Rattle.attempt.specs.Step.{countsFit, stepOf}
 use Rattle.attempt.specs.declared.Attempt.{Attempt}
 use Rattle.attempt.specs.declared.Event.{Event}
 use Rattle.attempt.proofs.Blank.{step-any, reachable-counts}
-use Rattle.client.proofs.Steps.{counts-all}
+use Rattle.client_step.proofs.Steps.{counts-all}
 use Rattle.c_record.specs.Records.{markFits, isRecord, attemptOf, eventOf, leftAfter, asFound, stepRecord}
 use Rattle.c_record.specs.declared.Record.{Record}
 

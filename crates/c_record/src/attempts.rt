@@ -1,22 +1,26 @@
 // The client's start, events and own list over the record without enums.
 ghost use mathlib.Core.Bool.{true};
+ghost use mathlib.Core.Option.{Option.some};
 ghost use mathlib.Core.Path.{_≡_};
+ghost use Prim.Native.Nat.{_≤_};
 ghost use Rattle.attempt.specs.Start.{inputOf, startReply};
-ghost use Rattle.attempt.specs.Step.{stepOf, answerReply};
+ghost use Rattle.client_step.specs.Verdicts.{attemptedAfter};
 ghost use Rattle.c_record.specs.Numbers.{refusalOf};
-ghost use Rattle.c_record.specs.Records.{isRecord, attemptOf, leftAfter, stepRecord, startRecord, ownRecord, shownLeft};
+ghost use Rattle.c_record.specs.Verdicts.{actedNumber, heardNumber, markAfter, valueAfter, numberOf, appliedRecord};
+ghost use Rattle.c_record.specs.Records.{eventOf, stepRecord, startRecord, ownRecord, shownLeft};
 use crate::NOT_VALID;
 use crate::Record;
 use crate::RecordAndRefusal;
 use crate::coding::decode;
 use crate::coding::encode;
 use crate::coding::is_record;
-use attempt::Answer;
 use attempt::Event;
+use attempt::NOT_A_RECORD;
 use attempt::OwnList;
 use attempt::StartAnswer;
 use attempt::own::own_list;
-use client::stepping::step_any;
+use client_step::Verdict;
+use client_step::stepping::judge;
 use client_start::start;
 use information::Presence;
 use versions::MAX_TABLE;
@@ -50,31 +54,114 @@ pub fn start_record(
     }
 }
 
-// The number of an event's refusal, 0 for none.
-fn refusal_number(answer: Answer) -> u32
-    ensures { λ r. ⌜ r ≡ refusalOf (answerReply answer) ⌝ }
+fn attempted_after(attempted: u32, verdict: Verdict) -> u32
+    ensures { λ r. ⌜ r ≡ attemptedAfter attempted verdict ⌝ }
 {
-    match answer {
-        Answer::Refused(refusal) => refusal.0 as u32,
-        Answer::Acted(_) => 0,
-        Answer::Noted => 0,
-        Answer::Completed(_) => 0,
+    match verdict {
+        Verdict::Keep(_) => attempted,
+        Verdict::Close(_) => attempted,
+        Verdict::Act(version) => version,
+        Verdict::Note => attempted,
+        Verdict::Complete(_) => attempted,
     }
 }
 
-// One event on a record that is one.
-fn apply(held: Record, event: Event, bytes: &[u8]) -> RecordAndRefusal
-    requires { ⌜ isRecord held ≡ true ⌝ }
-    ensures { λ r. ⌜ shownLeft r ≡ leftAfter (stepOf (attemptOf held) event (now (bytes .entry))) ⌝ }
+fn acted_after(acted: u32, verdict: Verdict) -> u32
+    ensures { λ r. ⌜ r ≡ actedNumber acted verdict ⌝ }
 {
-    let stepped = step_any(decode(held), event, bytes);
-    let attempt = stepped.attempt;
-    let answer = stepped.answer;
-    let left = encode(attempt);
-    RecordAndRefusal {
-        attempt: left,
-        refusal: refusal_number(answer),
+    match verdict {
+        Verdict::Keep(_) => acted,
+        Verdict::Close(_) => acted,
+        Verdict::Act(_) => 1,
+        Verdict::Note => acted,
+        Verdict::Complete(_) => acted,
     }
+}
+
+fn heard_after(heard: u32, verdict: Verdict) -> u32
+    ensures { λ r. ⌜ r ≡ heardNumber heard verdict ⌝ }
+{
+    match verdict {
+        Verdict::Keep(_) => heard,
+        Verdict::Close(_) => heard,
+        Verdict::Act(_) => heard,
+        Verdict::Note => 1,
+        Verdict::Complete(_) => heard,
+    }
+}
+
+fn mark_after(mark: u32, verdict: Verdict) -> u32
+    ensures { λ r. ⌜ r ≡ markAfter mark verdict ⌝ }
+{
+    match verdict {
+        Verdict::Keep(_) => mark,
+        Verdict::Close(_) => 2,
+        Verdict::Act(_) => mark,
+        Verdict::Note => mark,
+        Verdict::Complete(_) => 1,
+    }
+}
+
+fn value_after(number: u32, verdict: Verdict) -> u32
+    ensures { λ r. ⌜ r ≡ valueAfter number verdict ⌝ }
+{
+    match verdict {
+        Verdict::Keep(_) => number,
+        Verdict::Close(refusal) => refusal.0 as u32,
+        Verdict::Act(_) => number,
+        Verdict::Note => number,
+        Verdict::Complete(version) => version,
+    }
+}
+
+// The number of a verdict's refusal, 0 for none.
+fn number_of(verdict: Verdict) -> u32
+    ensures { λ r. ⌜ r ≡ numberOf verdict ⌝ }
+{
+    match verdict {
+        Verdict::Keep(refusal) => refusal.0 as u32,
+        Verdict::Close(refusal) => refusal.0 as u32,
+        Verdict::Act(_) => 0,
+        Verdict::Note => 0,
+        Verdict::Complete(_) => 0,
+    }
+}
+
+// The event of a known kind.
+fn event_of(kind: u32, value: u32) -> Event
+    requires { ⌜ kind ≤ 3 ⌝ }
+    ensures { λ r. ⌜ eventOf kind value ≡ some r ⌝ }
+{
+    if kind == 0 {
+        return Event::Datagram;
+    }
+    if kind == 1 {
+        return Event::PacketProcessed;
+    }
+    if kind == 2 {
+        return Event::Outcome {
+            in_use: value,
+            information: Presence::Given,
+        };
+    }
+    Event::Outcome {
+        in_use: value,
+        information: Presence::Missing,
+    }
+}
+
+// What one event does to any record: 255 for one that no attempt has, and for another kind.
+fn judge_record(held: Record, kind: u32, value: u32, bytes: &[u8]) -> Verdict
+    ensures { λ r. ⌜ appliedRecord held r ≡ stepRecord held kind value (now (bytes .entry)) ⌝ }
+{
+    if !is_record(held) {
+        return Verdict::Keep(NOT_A_RECORD);
+    }
+    if 3 < kind {
+        return Verdict::Keep(NOT_A_RECORD);
+    }
+    let event = event_of(kind, value);
+    judge(decode(held), event, bytes)
 }
 
 // One event: the record that it leaves, and the number of its refusal, 0 for none. `kind` is 0 for a datagram, 1 for a
@@ -85,35 +172,23 @@ fn apply(held: Record, event: Event, bytes: &[u8]) -> RecordAndRefusal
 pub fn step_record(held: Record, kind: u32, value: u32, bytes: &[u8]) -> RecordAndRefusal
     ensures { λ r. ⌜ shownLeft r ≡ stepRecord held kind value (now (bytes .entry)) ⌝ }
 {
-    if !is_record(held) {
-        return RecordAndRefusal {
-            attempt: held,
-            refusal: NOT_VALID,
-        };
-    }
-    if kind == 0 {
-        return apply(held, Event::Datagram, bytes);
-    }
-    if kind == 1 {
-        return apply(held, Event::PacketProcessed, bytes);
-    }
-    if kind == 2 {
-        let given = Event::Outcome {
-            in_use: value,
-            information: Presence::Given,
-        };
-        return apply(held, given, bytes);
-    }
-    if kind == 3 {
-        let missing = Event::Outcome {
-            in_use: value,
-            information: Presence::Missing,
-        };
-        return apply(held, missing, bytes);
-    }
+    let verdict = judge_record(held, kind, value, bytes);
+    let attempted = attempted_after(held.attempted, verdict);
+    let acted = acted_after(held.acted, verdict);
+    let heard = heard_after(held.heard, verdict);
+    let mark = mark_after(held.end_mark, verdict);
+    let number = value_after(held.end_value, verdict);
+    let refusal = number_of(verdict);
+    // From here on no test: the compiler then stores the five fields, and copies the record nowhere.
+    let mut left = held;
+    left.attempted = attempted;
+    left.acted = acted;
+    left.heard = heard;
+    left.end_mark = mark;
+    left.end_value = number;
     RecordAndRefusal {
-        attempt: held,
-        refusal: NOT_VALID,
+        attempt: left,
+        refusal,
     }
 }
 

@@ -5,7 +5,7 @@ ghost use Rattle.attempt.specs.Step.{answerReply, stepOf};
 use attempt::Answer;
 use attempt::Attempt;
 use attempt::Event;
-use client::stepping::step;
+use client_step::stepping::step;
 
 // One event on a lent record, which a start handed back and events alone changed since. `bytes` is the datagram, or
 // the Version Information that is given; else it is not read. The answer, its refusals and what each of them leaves

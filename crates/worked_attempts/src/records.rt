@@ -6,7 +6,7 @@ ghost use Rattle.attempt.specs.Events.{Reachable};
 ghost use Rattle.attempt.specs.Start.{inputOf, isAccepted};
 use attempt::Attempt;
 use attempt::Event;
-use client::stepping::step;
+use client_step::stepping::step;
 use client_start::start;
 use information::Presence;
 

@@ -11,7 +11,7 @@ use attempt::End;
 use attempt::Event;
 use attempt::StartAnswer;
 use attempt::own::own_list;
-use client::stepping::step;
+use client_step::stepping::step;
 use client_start::start;
 use information::Presence;
 

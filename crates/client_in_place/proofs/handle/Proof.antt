@@ -55,10 +55,10 @@ use Rattle.attempt.proofs.Event as event
 use Rattle.attempt.proofs.Event.Laws as event-laws
 use Rattle.attempt.proofs.Stepped as stepped
 use Rattle.attempt.proofs.Stepped.Laws as stepped-laws
-use Rattle.client.proofs.stepping.step as step
-use Rattle.client.proofs.stepping.step.Met as step-thm
-use Rattle.client.proofs.stepping.step.Symbol as step-def
-use Rattle.client.proofs.stepping.step.Symbol.{name as #step}
+use Rattle.client_step.proofs.stepping.step as step
+use Rattle.client_step.proofs.stepping.step.Met as step-thm
+use Rattle.client_step.proofs.stepping.step.Symbol as step-def
+use Rattle.client_step.proofs.stepping.step.Symbol.{name as #step}
 use Rattle.client_in_place.proofs.PlainData.{PlainData, struct-data, enum-data, vals, IsData}
 use Rattle.client_in_place.proofs.PlainData.{seen, anew, opens-lent, closes-lent}
 use Rattle.client_in_place.proofs.handle as handle

@@ -4,20 +4,20 @@ use Prim.Native.Nat.{_-_, _≤_}
 use mathlib.Core.Logic.{⊎-elim}
 use mathlib.Core.Path.{_≡_, refl, sym, ap, _∙_}
 use native.Mathlib.Omega.{arith}
-use lib.ListN.{length, take, drop, getD}
-use borrow.Author.Needs.{needs}
-use Rattle.versions.specs.Limits.{maxTable}
+use denote.Ref.{now}
+use lib.ListN.{length, drop, getD}
 use Rattle.versions.specs.Table.{elem}
 use Rattle.attempt.specs.OwnList.{members}
-use Rattle.attempt.proofs.Walks.{bit-set, bit-clear, bits-end, first-is, first-is-not}
+use Rattle.attempt.proofs.Walks.{first-is, first-is-not}
+use Rattle.attempt.proofs.Slices.{bit-set, bit-clear, bits-end}
 use Rattle.attempt.proofs.own.is_member.Statement.{statement}
 use Rattle.attempt.proofs.own.is_member.Tie as tie
 
 abbrev Inv-loop : tie.InvT-loop
-Inv-loop count word version table rest₀ i₀ rest i = (i ≤ count) × (elem version (members word (take count table)) ≡ elem version (members rest (drop i (take count table))))
+Inv-loop table word version rest₀ i₀ rest i = (i ≤ length table) × (elem version (members word table) ≡ elem version (members rest (drop i table)))
 
 abbrev μ-loop : tie.MeasureT-loop
-μ-loop count word version table rest₀ i₀ rest i = count - i
+μ-loop table word version rest₀ i₀ rest i = length table - i
 
 loop-holds : tie.Need-loop-holds Inv-loop μ-loop
 loop-holds c = (omega arith, refl)
@@ -25,19 +25,18 @@ loop-holds c = (omega arith, refl)
 mul-if2 : tie.Need-mul-if2 Inv-loop μ-loop
 mul-if2 c = omega arith
 
-array-read-if2 : tie.Need-array-read-if2 Inv-loop μ-loop
-array-read-if2 c = omega arith
+shared-slice-read-if2 : tie.Need-shared-slice-read-if2 Inv-loop μ-loop
+shared-slice-read-if2 c = omega arith
 
 returns : tie.Need-returns Inv-loop μ-loop
 returns c =
-    let at = c .before .before .before in
+    let at = c .before .before .before .before in
     let args = at .before .args in
-    let wide : length (args .t1) ≡ maxTable = search needs in
     sym
     (at .loop .inv .1 ∙
     ap (elem (args .version))
-    (bit-set (args .t1) (args .count) (at .loop .rest) (at .loop .i) (omega arith) (omega arith) (c .before .if1 .taken)) ∙
-    first-is (args .version) (getD (args .t1) (at .loop .i) 0) _ (c .if2 .taken))
+    (bit-set (now (args .table)) (at .loop .rest) (at .loop .i) (c .before .before .before .loop-test .taken) (c .before .before .if1 .taken)) ∙
+    first-is (args .version) (getD (now (args .table)) (at .loop .i) 0) _ (c .if2 .taken))
 
 add-i : tie.Need-add-i Inv-loop μ-loop
 add-i c = omega arith
@@ -48,18 +47,14 @@ loop-less c = omega arith
 loop-again : tie.Need-loop-again Inv-loop μ-loop
 loop-again c =
     let at = c .before .before in
-    let args = at .before .args in
-    let wide : length (args .t1) ≡ maxTable = search needs in (
+    let args = at .before .args in (
       omega arith,
       at .loop .inv .1 ∙
           ⊎-elim
           (λ w.
-          ap (elem (args .version))
-          (bit-set (args .t1) (args .count) (at .loop .rest) (at .loop .i) (omega arith) (omega arith) (w .0 .taken)) ∙
-          first-is-not (args .version) (getD (args .t1) (at .loop .i) 0) _ (w .1 .left))
-          (λ w.
-          ap (elem (args .version))
-          (bit-clear (args .t1) (args .count) (at .loop .rest) (at .loop .i) (omega arith) (omega arith) (w .left)))
+          ap (elem (args .version)) (bit-set (now (args .table)) (at .loop .rest) (at .loop .i) (c .before .loop-test .taken) (w .0 .taken)) ∙
+          first-is-not (args .version) (getD (now (args .table)) (at .loop .i) 0) _ (w .2 .left))
+          (λ w. ap (elem (args .version)) (bit-clear (now (args .table)) (at .loop .rest) (at .loop .i) (c .before .loop-test .taken) (w .left)))
           (c .if1 .came),
     )
 
@@ -70,7 +65,7 @@ returns-2 c =
     let args = at .before .args in
     sym
     (at .loop .inv .1 ∙
-    ap (elem (args .version)) (bits-end (args .t1) (args .count) (at .loop .rest) (at .loop .i) (c .loop-test .left)))
+    ap (elem (args .version)) (bits-end (now (args .table)) (at .loop .rest) (at .loop .i) (c .loop-test .left)))
 
 pub is-member-spec : {M : Type 1} → statement M
 is-member-spec =
@@ -80,7 +75,7 @@ is-member-spec =
     μ-loop
     loop-holds
     mul-if2
-    array-read-if2
+    shared-slice-read-if2
     returns
     add-i
     loop-less
