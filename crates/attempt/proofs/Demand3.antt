@@ -21,8 +21,7 @@ use Rattle.choosing.proofs.Laws.{elem-append, preferred-by-membership}
 use Rattle.attempt.specs.Attempt.{isCompleted}
 use Rattle.attempt.specs.Demand.{actedWith, Handshake, outcomeAt, firstOutcome, VersionInformation, informationOf, Good, CompletedAgainst}
 use Rattle.attempt.specs.Events.{Handed, run}
-use Rattle.attempt.specs.OwnList.{ownList}
-use Rattle.attempt.specs.Start.{Input, Start, Nothing.nothing, startRules, isAccepted, startOf, refusedStart, opened}
+use Rattle.attempt.specs.Start.{Input, ourList, Start, Nothing.nothing, startRules, isAccepted, startOf, refusedStart, opened}
 use Rattle.attempt.specs.Step.{picks}
 use Rattle.attempt.specs.declared.Attempt.{Attempt}
 use Rattle.attempt.specs.declared.Event.{Event}
@@ -58,7 +57,7 @@ test-good : (x : Input) (v : ℕ) (h : Handshake) (o : Option VersionInformation
     isGoodInformation x v (h .inUse) o ≡ true → Good x v h
 test-good x v h none e t = absurd (false≢true t)
 test-good x v h (some i) e t =
-    let a = both-true (elem (i .chosen) (ownList (x .table) (x .pairs) v)) _ t in
+    let a = both-true (elem (i .chosen) (ourList x v)) _ t in
     let b = both-true (eqb (i .chosen) (h .inUse)) _ (a .1) in
     let c = both-true (not (eqb (length (i .available)) 0)) _ (b .1) in
     record {

@@ -1,5 +1,5 @@
-pub mod Blank
 pub mod Demand3
+pub mod Keeps
 pub mod OwnLists
 pub mod Padded
 pub mod Phases
@@ -7,4 +7,3 @@ pub mod Reaching
 pub mod Told
 pub mod Walks
 pub mod Worked
-pub mod Slices

@@ -18,12 +18,12 @@ use Rattle.invariants.specs.Header.{isReadableNegotiation, listed}
 use Rattle.information.specs.Information.{chosenOf, availableOf, formRules}
 use Rattle.information.specs.declared.Presence.{Presence}
 use Rattle.information.specs.declared.Presence.the-variants.{Missing, Given}
-use Rattle.attempt.specs.Attempt.{padded, tableOf, destinationOf, sourceOf, ownFor, ownOf, isOpen, isCompleted, put, ended}
+use Rattle.attempt.specs.Attempt.{padded, tableOf, destinationOf, sourceOf, ownFor, ownOf, isOpen, isCompleted, put}
 use Rattle.attempt.specs.Demand.{fits, actedAt, actedWith, VersionInformation, standIn, informationRead}
 use Rattle.attempt.specs.Events.{Handed, run}
-use Rattle.attempt.specs.OwnList.{ownList}
-use Rattle.attempt.specs.Start.{Input, opened}
-use Rattle.attempt.specs.Step.{After, datagramRules, outcomeRules, missingRules, informationRules, actOn, picks, unchanged, closed, after, Effect, Effect.completes, stepOf, onDatagram, onProcessed, onOutcome}
+use Rattle.attempt.specs.Start.{Input, ourList, opened}
+use Rattle.attempt.specs.Step.{After, datagramRules, outcomeRules, missingRules, informationRules, isLate, actOn, picks}
+use Rattle.attempt.specs.Step.{unchanged, closed, completed, stepOf, onDatagram, onProcessed, onOutcome}
 use Rattle.attempt.specs.declared.Attempt.{Attempt}
 use Rattle.attempt.specs.declared.End.{End}
 use Rattle.attempt.specs.declared.End.the-variants as end
@@ -37,12 +37,13 @@ pub record Reads (x : Input) (a : Attempt) : Type 0 where
   pub destination : destinationOf a ≡ x .destination
   pub source : sourceOf a ≡ x .source
   pub original : a .original ≡ x .original
-  pub own : (v : ℕ) → elem v (x .table) ≡ true → ownFor a v ≡ ownList (x .table) (x .pairs) v
+  pub own : (v : ℕ) → elem v (x .table) ≡ true → ownFor a v ≡ ourList x v
 
 pub opened-reads : (x : Input) → Reads x (opened x)
 unfolding opened padded
 opened-reads x =
-    let t : tableOf (opened x) ≡ x .table = take-append-seam (x .table) (drop (length (x .table)) (replicate maxTable 0)) in
+    let t : tableOf (opened x) ≡ x .table =
+    take-append-seam (x .table) (drop (length (x .table)) (replicate maxTable 0)) in
     record {
       table = t;
       destination = take-append-seam (x .destination) _;
@@ -64,6 +65,8 @@ put-reads v acted heard e r =
 
 -- The three phases that are open or not
 
+-- Each refusal that leaves an attempt unchanged leaves the phase; that is all that the lists of events below use of it,
+-- so a field which every event changes asks for these two lemmas alone.
 pub record Fresh (x : Input) (a : Attempt) : Type 0 where
   pub reads : Reads x a
   pub acted : a .acted ≡ false
@@ -77,10 +80,17 @@ pub record Acted (x : Input) (v : ℕ) (a : Attempt) : Type 0 where
   pub acted : a .acted ≡ true
   pub open? : a .end ≡ end.Open
 
+fresh-unchanged : {x : Input} {a : Attempt} (n : ℕ) → Fresh x a → Fresh x (unchanged a n .attempt)
+fresh-unchanged n s = record { reads = s .reads; acted = s .acted; heard = s .heard; open? = s .open? }
+
+acted-unchanged : {x : Input} {v : ℕ} {a : Attempt} (n : ℕ) → Acted x v a → Acted x v (unchanged a n .attempt)
+acted-unchanged n s =
+    record { reads = s .reads; held = s .held; attempted = s .attempted; acted = s .acted; open? = s .open? }
+
 -- Ended
 
 -- what holds of each refusal that leaves the record holds of a datagram that comes too late
-late-datagram : (a : Attempt) (bytes : List ℕ) (P : After → Type 0) → (not (isOpen (a .end)) || (a .acted || a .heard)) ≡ true →
+late-datagram : (a : Attempt) (bytes : List ℕ) (P : After → Type 0) → isLate a ≡ true →
     ((n : ℕ) → P (unchanged a n)) → P (stepOf a Datagram bytes)
 unfolding stepOf onDatagram
 late-datagram a bytes P late each =
@@ -107,7 +117,7 @@ ended-run a (e ∷ es) h =
 abbrev pub isGoodInformation : Input → ℕ → ℕ → Option VersionInformation → Bool
 isGoodInformation x v u none = false
 isGoodInformation x v u (some i) =
-    elem (i .chosen) (ownList (x .table) (x .pairs) v) &&
+    elem (i .chosen) (ourList x v) &&
     (eqb (i .chosen) u &&
     (not (eqb (length (i .available)) 0) && picks (preferred (x .table) (i .available ++ (u ∷ []))) v))
 
@@ -122,11 +132,11 @@ firstIsGood x v [] = false
 firstIsGood x v (e ∷ es) = isGoodAt x v (e .event) (e .bytes) (firstIsGood x v es)
 
 -- the attempt completes where no rule applies
-completes-clear : (a : Attempt) (u : ℕ) (f : Effect) (rs : List Rule) →
-    isCompleted (lowest (closed a) rs (after (ended a (end.Completed u)) f) .attempt .end) ≡ clear rs
-completes-clear a u f [] = refl
-completes-clear a u f ((n when true) ∷ rs) = refl
-completes-clear a u f ((n when false) ∷ rs) = completes-clear a u f rs
+completes-clear : (a : Attempt) (u : ℕ) (rs : List Rule) →
+    isCompleted (lowest (closed a) rs (completed a u) .attempt .end) ≡ clear rs
+completes-clear a u [] = refl
+completes-clear a u ((n when true) ∷ rs) = refl
+completes-clear a u ((n when false) ∷ rs) = completes-clear a u rs
 
 -- 72 to 75 of an attempt that acted are what "good" asks of information that is well formed
 outcome-good : (x : Input) (v : ℕ) (a : Attempt) (u c : ℕ) (l : List ℕ) → Acted x v a →
@@ -160,18 +170,22 @@ information-good x v a u Given bytes s =
 
 -- an outcome on an open attempt
 open-outcome : (a : Attempt) (u : ℕ) (p : Presence) (bytes : List ℕ) → a .end ≡ end.Open →
-    stepOf a (Outcome u p) bytes ≡ lowest (closed a) (informationRules a u p bytes) (after (ended a (end.Completed u)) (completes u))
+    stepOf a (Outcome u p) bytes ≡ lowest (closed a) (informationRules a u p bytes) (completed a u)
 unfolding stepOf onOutcome
 open-outcome a u p bytes h =
-    ap
-    (λ (d : End). cond (isOpen d) (lowest (closed a) (informationRules a u p bytes) (after (ended a (end.Completed u)) (completes u))) (unchanged a 62))
-    h
+    ap (λ (d : End). cond (isOpen d) (lowest (closed a) (informationRules a u p bytes) (completed a u)) (unchanged a 62)) h
 
 acted-processed : (x : Input) (v : ℕ) (a : Attempt) (bytes : List ℕ) → Acted x v a → Acted x v (stepOf a PacketProcessed bytes .attempt)
 unfolding stepOf onProcessed
 acted-processed x v a bytes s =
     rw (ap isOpen (s .open?))
-    (record { reads = put-reads _ _ _ _ (s .reads); held = s .held; attempted = s .attempted; acted = s .acted; open? = s .open? })
+    (record {
+      reads = put-reads _ _ _ _ (s .reads);
+      held = s .held;
+      attempted = s .attempted;
+      acted = s .acted;
+      open? = s .open?;
+    })
 
 -- an attempt that acted has completed exactly when the first outcome is good
 pub acted-run : (x : Input) (v : ℕ) (a : Attempt) (es : List Handed) → Acted x v a →
@@ -188,12 +202,12 @@ acted-run x v a (e ∷ es) s = go (e .event) (λ b. acted-run x v b es)
         isCompleted (run (stepOf a ev (e .bytes) .attempt) es .end) ≡ isGoodAt x v ev (e .bytes) (firstIsGood x v es)
     go Datagram ih =
         late-datagram a (e .bytes) (λ r. isCompleted (run (r .attempt) es .end) ≡ firstIsGood x v es)
-        (rw (s .acted, or-true) refl) (λ n. ih a s)
+        (rw (s .acted, or-true) refl) (λ n. ih _ (acted-unchanged n s))
     go PacketProcessed ih = ih _ (acted-processed x v a (e .bytes) s)
     go (Outcome u p) ih =
         after-outcome u p _ (open-outcome a u p (e .bytes) (s .open?))
         (lowest-any (closed a) _ (λ r. isOpen (r .attempt .end) ≡ false) (λ n. refl) refl (informationRules a u p (e .bytes))) ∙
-        completes-clear a u (completes u) (informationRules a u p (e .bytes)) ∙
+        completes-clear a u (informationRules a u p (e .bytes)) ∙
         information-good x v a u p (e .bytes) s
 
 -- Not yet acted
@@ -208,8 +222,12 @@ pub fresh-run : (x : Input) (v : ℕ) (a : Attempt) (es : List Handed) → Fresh
     isCompleted (run a es .end) ≡ firstIsGood x v es
 unfolding run firstIsGood actedWith stepOf onDatagram
 fresh-run x v a [] s h = absurd (Option·none-ne-some v h)
-fresh-run x v a (e ∷ es) s h = go (e .event) h (fresh-run x v a es s)
+fresh-run x v a (e ∷ es) s h = go (e .event) h (λ b. fresh-run x v b es)
   where
+    -- what the rest of the list does to an attempt that has not acted yet
+    Later : Type 0
+    Later = (b : Attempt) → Fresh x b → actedWith x es ≡ some v → isCompleted (run b es .end) ≡ firstIsGood x v es
+
     acts-on : (o : Option ℕ) → preferred (x .table) (listed (e .bytes)) ≡ o → o ≡ some v →
         isCompleted (run (actOn a o .attempt) es .end) ≡ firstIsGood x v es
     acts-on none p q = absurd (Option·none-ne-some v q)
@@ -224,19 +242,22 @@ fresh-run x v a (e ∷ es) s h = go (e .event) h (fresh-run x v a es s)
           open? = s .open?;
         })
 
-    datagram : (b : Bool) → fits x (e .bytes) ≡ b → cond b (preferred (x .table) (listed (e .bytes))) (actedWith x es) ≡ some v →
-        (actedWith x es ≡ some v → isCompleted (run a es .end) ≡ firstIsGood x v es) →
-        isCompleted (run (onDatagram a (e .bytes) .attempt) es .end) ≡ firstIsGood x v es
-    datagram true f q ih =
-        rw (lowest-clear (unchanged a) (actOn a (preferred (tableOf a) (listed (e .bytes)))) (datagramRules a (e .bytes)) (fresh-fits x a (e .bytes) s ∙ f), s .reads .table)
-        (acts-on _ refl q)
-    datagram false f q ih =
-        lowest-applies (unchanged a) (actOn a (preferred (tableOf a) (listed (e .bytes)))) (λ r. isCompleted (run (r .attempt) es .end) ≡ firstIsGood x v es)
-        (λ n. ih q) (datagramRules a (e .bytes)) (fresh-fits x a (e .bytes) s ∙ f)
+    rules : List Rule
+    rules = datagramRules a (e .bytes)
 
-    go : (ev : Event) → actedAt x ev (e .bytes) (actedWith x es) ≡ some v →
-        (actedWith x es ≡ some v → isCompleted (run a es .end) ≡ firstIsGood x v es) →
+    act : After
+    act = actOn a (preferred (tableOf a) (listed (e .bytes)))
+
+    datagram : (b : Bool) → fits x (e .bytes) ≡ b → cond b (preferred (x .table) (listed (e .bytes))) (actedWith x es) ≡ some v →
+        Later → isCompleted (run (onDatagram a (e .bytes) .attempt) es .end) ≡ firstIsGood x v es
+    datagram true f q later =
+        rw (lowest-clear (unchanged a) act rules (fresh-fits x a (e .bytes) s ∙ f), s .reads .table) (acts-on _ refl q)
+    datagram false f q later =
+        lowest-applies (unchanged a) act (λ r. isCompleted (run (r .attempt) es .end) ≡ firstIsGood x v es)
+        (λ n. later _ (fresh-unchanged n s) q) rules (fresh-fits x a (e .bytes) s ∙ f)
+
+    go : (ev : Event) → actedAt x ev (e .bytes) (actedWith x es) ≡ some v → Later →
         isCompleted (run (stepOf a ev (e .bytes) .attempt) es .end) ≡ isGoodAt x v ev (e .bytes) (firstIsGood x v es)
-    go Datagram q ih = datagram (fits x (e .bytes)) refl q ih
-    go PacketProcessed q ih = absurd (Option·none-ne-some v q)
-    go (Outcome u p) q ih = absurd (Option·none-ne-some v q)
+    go Datagram q later = datagram (fits x (e .bytes)) refl q later
+    go PacketProcessed q later = absurd (Option·none-ne-some v q)
+    go (Outcome u p) q later = absurd (Option·none-ne-some v q)

@@ -4,7 +4,7 @@ use mathlib.Core.Bool.{Bool, true, false}
 use mathlib.Core.List.{List, _++_}
 use lib.ListN.{length, take, drop, replicate}
 use Rattle.versions.specs.Limits.{maxTable}
-use Rattle.attempt.specs.OwnList.{members, wordOf}
+use Rattle.attempt.specs.OwnList.{ownIn}
 use Rattle.attempt.specs.declared.Attempt.{Attempt}
 use Rattle.attempt.specs.declared.End.{End}
 use Rattle.attempt.specs.declared.End.the-variants.{Open, Completed, Closed}
@@ -25,7 +25,7 @@ sourceOf a = take (a .«source_len») (a .source)
 
 -- The own list for a version, read from the record
 abbrev pub ownFor : Attempt → ℕ → List ℕ
-ownFor a v = members (wordOf (tableOf a) (a .rows) v) (tableOf a)
+ownFor a v = ownIn (tableOf a) (a .rows) v
 
 -- The own list of the attempt, which is that of the attempted version
 unfoldable pub ownOf : Attempt → List ℕ

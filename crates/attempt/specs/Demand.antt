@@ -15,8 +15,7 @@ use Rattle.information.specs.declared.Presence.{Presence}
 use Rattle.information.specs.declared.Presence.the-variants.{Missing, Given}
 use Rattle.attempt.specs.Attempt.{isCompleted}
 use Rattle.attempt.specs.Events.{Handed, run}
-use Rattle.attempt.specs.OwnList.{ownList}
-use Rattle.attempt.specs.Start.{Input, isAccepted, startOf}
+use Rattle.attempt.specs.Start.{Input, ourList, isAccepted, startOf}
 use Rattle.attempt.specs.Step.{otherConnection}
 use Rattle.attempt.specs.declared.Event.{Event}
 use Rattle.attempt.specs.declared.Event.the-variants.{Datagram, PacketProcessed, Outcome}
@@ -81,7 +80,7 @@ informationOf attempted h = informationRead attempted (h .presence) (h .bytes)
 pub record Good (x : Input) (attempted : ℕ) (h : Handshake) : Type 0 where
   pub information : VersionInformation
   pub wellFormed : informationOf attempted h ≡ some information
-  pub inOurList : elem (information .chosen) (ownList (x .table) (x .pairs) attempted) ≡ true
+  pub inOurList : elem (information .chosen) (ourList x attempted) ≡ true
   pub isInUse : information .chosen ≡ h .inUse
   pub availableNotEmpty : information .available ≢ []
   pub wouldChoose : preferred (x .table) (information .available ++ (h .inUse ∷ [])) ≡ some attempted

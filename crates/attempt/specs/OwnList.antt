@@ -43,3 +43,7 @@ unfoldable pub wordOf : List ℕ → List ℕ → ℕ → ℕ
 wordOf [] rows v = 0
 wordOf (t ∷ table) [] v = 0
 wordOf (t ∷ table) (w ∷ rows) v = cond (eqb t v) w (wordOf table rows v)
+
+-- The own list for a version, read from a table and the words of its entries
+abbrev pub ownIn : List ℕ → List ℕ → ℕ → List ℕ
+ownIn table rows v = members (wordOf table rows v) table

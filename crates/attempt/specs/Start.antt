@@ -12,7 +12,7 @@ use Rattle.versions.specs.Pairs.{pairsKeepRule}
 use Rattle.versions.specs.Table.{elem, tableKeepsRule}
 use Rattle.attempt.specs.Attempt.{padded}
 use Rattle.attempt.specs.Limits.{maxID}
-use Rattle.attempt.specs.OwnList.{rowsFor}
+use Rattle.attempt.specs.OwnList.{ownList, rowsFor}
 use Rattle.attempt.specs.declared.Attempt.{Attempt}
 use Rattle.attempt.specs.declared.End.the-variants.{Open, Closed}
 use Rattle.attempt.specs.declared.StartAnswer.{StartAnswer}
@@ -29,6 +29,10 @@ pub record Input : Type 0 where
 
 abbrev pub inputOf : List ℕ → List (List ℕ) → ℕ → List ℕ → List ℕ → Input
 inputOf t ps v d s = record { table = t; pairs = ps; original = v; destination = d; source = s }
+
+-- "Our list", the own list for an attempted version, read from the start
+abbrev pub ourList : Input → ℕ → List ℕ
+ourList x attempted = ownList (x .table) (x .pairs) attempted
 
 abbrev pub startRules : Input → List Rule
 startRules x =

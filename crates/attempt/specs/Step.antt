@@ -57,6 +57,10 @@ unchanged a n = record { attempt = a; reply = refuse Reading n }
 abbrev pub closed : Attempt → ℕ → After
 closed a n = record { attempt = ended a (end.Closed n); reply = refuse Reading n }
 
+-- The attempt has completed with the version in use
+abbrev pub completed : Attempt → ℕ → After
+completed a inUse = after (ended a (end.Completed inUse)) (completes inUse)
+
 -- Equality of byte strings
 unfoldable pub same : List ℕ → List ℕ → Bool
 same [] [] = true
@@ -69,12 +73,15 @@ abbrev pub otherConnection : List ℕ → List ℕ → List ℕ → Bool
 otherConnection destination source datagram =
     not (same (destinationID datagram) source) || not (same (sourceID datagram) destination)
 
--- "A datagram. Unchanged state with 61 to 64". 62: "attempt ended (any event); or, for Version Negotiation, acted
--- or heard before" (RFC 9000 section 6.2)
+-- 62: "attempt ended (any event); or, for Version Negotiation, acted or heard before" (RFC 9000 section 6.2)
+abbrev pub isLate : Attempt → Bool
+isLate a = not (isOpen (a .end)) || (a .acted || a .heard)
+
+-- "A datagram. Unchanged state with 61 to 64"
 abbrev pub datagramRules : Attempt → List ℕ → List Rule
 datagramRules a datagram =
     (61 when not (isReadableNegotiation datagram)) ∷
-    (62 when not (isOpen (a .end)) || (a .acted || a .heard)) ∷
+    (62 when isLate a) ∷
     (63 when otherConnection (destinationOf a) (sourceOf a) datagram) ∷
     (64 when elem (a .original) (listed datagram)) ∷
     []
@@ -126,8 +133,7 @@ informationRules a inUse Given information =
 unfoldable pub onOutcome : Attempt → ℕ → Presence → List ℕ → After
 onOutcome a inUse presence information =
     cond (isOpen (a .end))
-    (lowest (closed a) (informationRules a inUse presence information)
-    (after (ended a (end.Completed inUse)) (completes inUse)))
+    (lowest (closed a) (informationRules a inUse presence information) (completed a inUse))
     (unchanged a 62)
 
 unfoldable pub stepOf : Attempt → Event → List ℕ → After

@@ -1,9 +1,9 @@
 -- `collect`: at each place, the entries so far stand in their places, and the rest adds what is missing.
 use Prim.Native.Nat.{_-_, _≤_}
 use mathlib.Core.Logic.{⊎-elim}
-use mathlib.Core.Path.{_≡_}
 use native.Mathlib.Omega.{arith}
-use lib.ListN.{length, take}
+use denote.Ref.{now}
+use lib.ListN.{length}
 use borrow.Author.Needs.{needs}
 use Rattle.versions.specs.Limits.{maxTable}
 use Rattle.attempt.proofs.Padded.{padded-none}
@@ -12,19 +12,19 @@ use Rattle.attempt.proofs.own.collect.Statement.{statement}
 use Rattle.attempt.proofs.own.collect.Tie as tie
 
 abbrev Inv-loop : tie.InvT-loop
-Inv-loop count word table versions₀ found₀ rest₀ i₀ versions found rest i = (i ≤ count) × Collected word (take count table) versions found rest i
+Inv-loop table word versions₀ found₀ rest₀ i₀ versions found rest i = (i ≤ length table) × Collected word table versions found rest i
 
 abbrev μ-loop : tie.MeasureT-loop
-μ-loop count word table versions₀ found₀ rest₀ i₀ versions found rest i = count - i
+μ-loop table word versions₀ found₀ rest₀ i₀ versions found rest i = length table - i
 
 loop-holds : tie.Need-loop-holds Inv-loop μ-loop
-loop-holds c = (omega arith, collected-none (c .args .word) (take (c .args .count) (c .args .t1)) _ (padded-none maxTable))
+loop-holds c = (omega arith, collected-none (c .args .word) (now (c .args .table)) _ (padded-none maxTable))
 
 mul-versions : tie.Need-mul-versions Inv-loop μ-loop
 mul-versions c = omega arith
 
-array-read-versions : tie.Need-array-read-versions Inv-loop μ-loop
-array-read-versions c = omega arith
+shared-slice-read-versions : tie.Need-shared-slice-read-versions Inv-loop μ-loop
+shared-slice-read-versions c = omega arith
 
 mul-versions-2 : tie.Need-mul-versions-2 Inv-loop μ-loop
 mul-versions-2 c = omega arith
@@ -45,19 +45,18 @@ loop-again : tie.Need-loop-again Inv-loop μ-loop
 loop-again c =
     let at = c .before .before in
     let args = at .before .args in
-    let wide : length (args .t1) ≡ maxTable = search needs in
     let so-far = at .loop .inv .1 in
     let l = at .loop in (
       omega arith,
       ⊎-elim
           (λ w.
-          rw (w .1, w .2)
-          (collected-one (args .word) (args .t1) (args .count) (l .versions) (l .found) (l .rest) (l .i) so-far
-          (omega arith) (at .before .pre) (c .before .loop-test .taken) (w .0 .taken)))
+          rw (w .2, w .3)
+          (collected-one (args .word) (now (args .table)) (l .versions) (l .found) (l .rest) (l .i) so-far
+          (at .before .pre) (c .before .loop-test .taken) (w .0 .taken)))
           (λ w.
           rw (w .1, w .2)
-          (collected-no (args .word) (args .t1) (args .count) (l .versions) (l .found) (l .rest) (l .i) so-far
-          (omega arith) (c .before .loop-test .taken) (w .0 .left)))
+          (collected-no (args .word) (now (args .table)) (l .versions) (l .found) (l .rest) (l .i) so-far
+          (c .before .loop-test .taken) (w .0 .left)))
           (c .if1 .came),
     )
 
@@ -65,8 +64,8 @@ returns : tie.Need-returns Inv-loop μ-loop
 returns c =
     let at = c .before in
     let args = at .before .args in
-    collected-all (args .word) (args .t1) (args .count) (at .loop .versions) (at .loop .found) (at .loop .rest) (at .loop .i)
-    (at .loop .inv .1) (c .loop-test .left)
+    let l = at .loop in
+    collected-all (args .word) (now (args .table)) (l .versions) (l .found) (l .rest) (l .i) (l .inv .1) (c .loop-test .left)
 
 pub collect-spec : {M : Type 1} → statement M
 collect-spec =
@@ -76,7 +75,7 @@ collect-spec =
     μ-loop
     loop-holds
     mul-versions
-    array-read-versions
+    shared-slice-read-versions
     mul-versions-2
     array-write-versions
     add-found

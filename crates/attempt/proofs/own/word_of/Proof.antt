@@ -2,45 +2,51 @@
 use Prim.Native.Nat.{_-_, _≤_}
 use mathlib.Core.Path.{_≡_, refl, sym, _∙_}
 use native.Mathlib.Omega.{arith}
-use lib.ListN.{length, take, drop}
-use borrow.Author.Needs.{needs}
-use Rattle.versions.specs.Limits.{maxTable}
+use denote.Ref.{now}
+use lib.ListN.{length, drop}
 use Rattle.attempt.specs.OwnList.{wordOf}
-use Rattle.attempt.proofs.Walks.{word-here, word-next, word-past}
+use Rattle.attempt.proofs.Walks.{word-here, word-next, word-none, word-past}
 use Rattle.attempt.proofs.own.word_of.Statement.{statement}
 use Rattle.attempt.proofs.own.word_of.Tie as tie
 
 abbrev Inv-loop : tie.InvT-loop
-Inv-loop count version table rows i₀ i = (i ≤ count) × (wordOf (take count table) rows version ≡ wordOf (drop i (take count table)) (drop i rows) version)
+Inv-loop table rows version i₀ i = (i ≤ length table) × (wordOf table rows version ≡ wordOf (drop i table) (drop i rows) version)
 
 abbrev μ-loop : tie.MeasureT-loop
-μ-loop count version table rows i₀ i = count - i
+μ-loop table rows version i₀ i = length table - i
 
 loop-holds : tie.Need-loop-holds Inv-loop μ-loop
 loop-holds c = (omega arith, refl)
-
-mul-if1 : tie.Need-mul-if1 Inv-loop μ-loop
-mul-if1 c = omega arith
-
-array-read-if1 : tie.Need-array-read-if1 Inv-loop μ-loop
-array-read-if1 c = omega arith
-
-mul-result : tie.Need-mul-result Inv-loop μ-loop
-mul-result c = omega arith
-
-array-read-result : tie.Need-array-read-result Inv-loop μ-loop
-array-read-result c = omega arith
 
 returns : tie.Need-returns Inv-loop μ-loop
 returns c =
     let at = c .before .before in
     let args = at .before .args in
-    let wide : length (args .t1) ≡ maxTable = search needs in
-    let deep : length (args .t3) ≡ maxTable = search needs in
     sym
     (at .loop .inv .1 ∙
-    word-here (args .t1) (args .t3) (args .count) (args .version) (at .loop .i) (omega arith) (omega arith)
-    (c .before .loop-test .taken) (c .if1 .taken))
+    word-none (now (args .table)) (now (args .rows)) (args .version) (at .loop .i) (c .before .loop-test .taken) (c .if1 .taken))
+
+mul-if2 : tie.Need-mul-if2 Inv-loop μ-loop
+mul-if2 c = omega arith
+
+shared-slice-read-if2 : tie.Need-shared-slice-read-if2 Inv-loop μ-loop
+shared-slice-read-if2 c = omega arith
+
+mul-result : tie.Need-mul-result Inv-loop μ-loop
+mul-result c = omega arith
+
+shared-slice-read-result : tie.Need-shared-slice-read-result Inv-loop μ-loop
+shared-slice-read-result c = omega arith
+
+returns-2 : tie.Need-returns-2 Inv-loop μ-loop
+returns-2 c =
+    let rowed = c .before .before .before in
+    let at = rowed .before .before in
+    let args = at .before .args in
+    sym
+    (at .loop .inv .1 ∙
+    word-here (now (args .table)) (now (args .rows)) (args .version) (at .loop .i) (rowed .before .loop-test .taken)
+    (rowed .if1 .left) (c .before .if2 .taken))
 
 add-i : tie.Need-add-i Inv-loop μ-loop
 add-i c = omega arith
@@ -50,23 +56,20 @@ loop-less c = omega arith
 
 loop-again : tie.Need-loop-again Inv-loop μ-loop
 loop-again c =
-    let at = c .before .before in
-    let args = at .before .args in
-    let wide : length (args .t1) ≡ maxTable = search needs in
-    let deep : length (args .t3) ≡ maxTable = search needs in (
+    let rowed = c .before .before in
+    let at = rowed .before .before in
+    let args = at .before .args in (
       omega arith,
       at .loop .inv .1 ∙
-          word-next (args .t1) (args .t3) (args .count) (args .version) (at .loop .i) (omega arith) (omega arith)
-          (c .before .loop-test .taken) (c .if1 .left),
+          word-next (now (args .table)) (now (args .rows)) (args .version) (at .loop .i) (rowed .before .loop-test .taken)
+          (rowed .if1 .left) (c .if2 .left),
     )
 
-returns-2 : tie.Need-returns-2 Inv-loop μ-loop
-returns-2 c =
+returns-3 : tie.Need-returns-3 Inv-loop μ-loop
+returns-3 c =
     let at = c .before in
     let args = at .before .args in
-    sym
-    (at .loop .inv .1 ∙
-    word-past (args .t1) (args .t3) (args .count) (args .version) (at .loop .i) (c .loop-test .left))
+    sym (at .loop .inv .1 ∙ word-past (now (args .table)) (now (args .rows)) (args .version) (at .loop .i) (c .loop-test .left))
 
 pub word-of-spec : {M : Type 1} → statement M
 word-of-spec =
@@ -75,12 +78,13 @@ word-of-spec =
     Inv-loop
     μ-loop
     loop-holds
-    mul-if1
-    array-read-if1
-    mul-result
-    array-read-result
     returns
+    mul-if2
+    shared-slice-read-if2
+    mul-result
+    shared-slice-read-result
+    returns-2
     add-i
     loop-less
     loop-again
-    returns-2)
+    returns-3)
