@@ -19,9 +19,9 @@ use attempt::NOT_A_RECORD;
 use attempt::OwnList;
 use attempt::StartAnswer;
 use attempt::own::own_list;
+use client_start::start;
 use client_step::Verdict;
 use client_step::stepping::judge;
-use client_start::start;
 use information::Presence;
 use versions::MAX_TABLE;
 

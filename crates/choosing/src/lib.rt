@@ -2,11 +2,11 @@
 ghost use mathlib.Core.Path.{_≡_};
 ghost use Rattle.choosing.specs.Choice.{choose, choiceReply, orNothingInCommon, preferred};
 ghost use Rattle.lists.specs.Wire.{entries, entryReply};
-use lists::contains_in_bytes;
-use refusals::Refusal;
 use lists::Entry;
 use lists::MAX_LIST;
 use lists::VERSION_BYTES;
+use lists::contains_in_bytes;
+use refusals::Refusal;
 use versions::table::contains;
 use versions::table::is_table;
 

@@ -1,3 +1,4 @@
+pub mod Applied
 pub mod Compared
 pub mod Negotiating
 pub mod Outcomes

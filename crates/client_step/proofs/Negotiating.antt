@@ -1,6 +1,6 @@
 -- A datagram, along the code of the step: where the parts of a Version Negotiation packet lie, and its rules in order.
 use Prim.Native.Nat.{ℕ, _+_, _-_, _≤_}
-use mathlib.Core.Bool.{true, false, not, _||_}
+use mathlib.Core.Bool.{true, false}
 use mathlib.Core.List.{List}
 use mathlib.Core.Option.{Option.none, Option.some}
 use mathlib.Core.Path.{_≡_}
@@ -10,15 +10,16 @@ use Rattle.choosing.specs.Choice.{preferred}
 use Rattle.versions.specs.Table.{elem}
 use Rattle.lists.specs.declared.Span.{Span}
 use Rattle.versions.proofs.Lists.{part-rest}
-use Rattle.invariants.specs.Header.{isReadableNegotiation, destinationLength, sourceLength, sourceStart, restStart, destinationID, sourceID, restOf, listed}
-use Rattle.attempt.specs.Attempt.{tableOf, destinationOf, sourceOf, isOpen, put}
+use Rattle.invariants.specs.Header.{isReadableNegotiation, destinationID, sourceID, restOf, listed}
+use Rattle.invariants.specs.Header.{destinationLength, sourceLength, sourceStart, restStart}
+use Rattle.attempt.specs.Attempt.{tableOf, destinationOf, sourceOf, put}
 use Rattle.client_step.specs.Parts.{Parts}
-use Rattle.attempt.specs.Step.{unchanged, closed, after, Effect.acts, otherConnection, onDatagram}
+use Rattle.attempt.specs.Step.{unchanged, closed, after, Effect.acts, isLate, otherConnection, onDatagram}
 use Rattle.attempt.specs.declared.Attempt.{Attempt}
 
 -- The parts
 
-module _ (d : List ℕ) (D S L : Span) (p : Parts d D S L) where
+module _ {d : List ℕ} {D S L : Span} (p : Parts d D S L) where
   pub destination-from : D .start ≤ D .end
   destination-from = rw (p .destination-is) (omega arith)
 
@@ -55,11 +56,11 @@ module _ (a : Attempt) (d : List ℕ) where
   unreadable e = rw e
 
   module _ (readable : isReadableNegotiation d ≡ true) where
-    pub too-late : (not (isOpen (a .end)) || (a .acted || a .heard)) ≡ true → unchanged a 62 ≡ onDatagram a d
+    pub too-late : isLate a ≡ true → unchanged a 62 ≡ onDatagram a d
     unfolding onDatagram
     too-late f = rw (readable, f)
 
-    module _ (intime : (not (isOpen (a .end)) || (a .acted || a .heard)) ≡ false) where
+    module _ (intime : isLate a ≡ false) where
       pub not-ours : otherConnection (destinationOf a) (sourceOf a) d ≡ true → unchanged a 63 ≡ onDatagram a d
       unfolding onDatagram
       not-ours g = rw (readable, intime, g)

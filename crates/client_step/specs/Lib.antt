@@ -1,3 +1,3 @@
+pub mod Judgements
 pub mod Parts
 pub mod Verdicts
-pub mod Tellings

@@ -4,52 +4,54 @@ use mathlib.Core.Bool.{Bool, true}
 use Rattle.refusals.specs.Reply.{Reply, Reply.answered, refuse}
 use Rattle.refusals.specs.declared.Call.the-variants.{Reading}
 use Rattle.attempt.specs.Attempt.{put}
-use Rattle.attempt.specs.Step.{After, Effect, Effect.acts, Effect.notes, Effect.completes}
+use Rattle.attempt.specs.Step.{After, unchanged, closed, completed, after, Effect, Effect.acts, Effect.notes, Effect.completes}
 use Rattle.attempt.specs.declared.Attempt.{Attempt}
 use Rattle.attempt.specs.declared.End.{End}
-use Rattle.attempt.specs.declared.End.the-variants.{Completed, Closed}
+use Rattle.attempt.specs.declared.End.the-variants as end
 use Rattle.client_step.specs.declared.Verdict.{Verdict}
-use Rattle.client_step.specs.declared.Verdict.the-variants.{Keep, Close, Act, Note, Complete}
+use Rattle.client_step.specs.declared.Verdict.the-variants.{Unchanged, Closed, Acted, Noted, Completed}
+
+-- The cases of `Verdict`: the record and the answer after each
+abbrev pub applied : Attempt → Verdict → After
+applied a (Unchanged r) = unchanged a (r .0)
+applied a (Closed r) = closed a (r .0)
+applied a (Acted v) = after (put a v true (a .heard) (a .end)) (acts v)
+applied a Noted = after (put a (a .attempted) (a .acted) true (a .end)) notes
+applied a (Completed v) = completed a v
+
+-- The same field by field, as the code does it
 
 abbrev pub attemptedAfter : ℕ → Verdict → ℕ
-attemptedAfter v (Keep r) = v
-attemptedAfter v (Close r) = v
-attemptedAfter v (Act w) = w
-attemptedAfter v Note = v
-attemptedAfter v (Complete w) = v
+attemptedAfter attempted (Unchanged r) = attempted
+attemptedAfter attempted (Closed r) = attempted
+attemptedAfter attempted (Acted v) = v
+attemptedAfter attempted Noted = attempted
+attemptedAfter attempted (Completed v) = attempted
 
 abbrev pub actedAfter : Bool → Verdict → Bool
-actedAfter b (Keep r) = b
-actedAfter b (Close r) = b
-actedAfter b (Act w) = true
-actedAfter b Note = b
-actedAfter b (Complete w) = b
+actedAfter acted (Unchanged r) = acted
+actedAfter acted (Closed r) = acted
+actedAfter acted (Acted v) = true
+actedAfter acted Noted = acted
+actedAfter acted (Completed v) = acted
 
 abbrev pub heardAfter : Bool → Verdict → Bool
-heardAfter b (Keep r) = b
-heardAfter b (Close r) = b
-heardAfter b (Act w) = b
-heardAfter b Note = true
-heardAfter b (Complete w) = b
+heardAfter heard (Unchanged r) = heard
+heardAfter heard (Closed r) = heard
+heardAfter heard (Acted v) = heard
+heardAfter heard Noted = true
+heardAfter heard (Completed v) = heard
 
 abbrev pub endAfter : End → Verdict → End
-endAfter e (Keep r) = e
-endAfter e (Close r) = Closed (r .0)
-endAfter e (Act w) = e
-endAfter e Note = e
-endAfter e (Complete w) = Completed w
+endAfter e (Unchanged r) = e
+endAfter e (Closed r) = end.Closed (r .0)
+endAfter e (Acted v) = e
+endAfter e Noted = e
+endAfter e (Completed v) = end.Completed v
 
 abbrev pub replyOf : Verdict → Reply Effect
-replyOf (Keep r) = refuse Reading (r .0)
-replyOf (Close r) = refuse Reading (r .0)
-replyOf (Act w) = answered (acts w)
-replyOf Note = answered notes
-replyOf (Complete w) = answered (completes w)
-
--- The record and the answer after a verdict
-abbrev pub applied : Attempt → Verdict → After
-applied a v =
-    record {
-      attempt = put a (attemptedAfter (a .attempted) v) (actedAfter (a .acted) v) (heardAfter (a .heard) v) (endAfter (a .end) v);
-      reply = replyOf v;
-    }
+replyOf (Unchanged r) = refuse Reading (r .0)
+replyOf (Closed r) = refuse Reading (r .0)
+replyOf (Acted v) = answered (acts v)
+replyOf Noted = answered notes
+replyOf (Completed v) = answered (completes v)

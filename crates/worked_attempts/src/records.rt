@@ -6,8 +6,8 @@ ghost use Rattle.attempt.specs.Events.{Reachable};
 ghost use Rattle.attempt.specs.Start.{inputOf, isAccepted};
 use attempt::Attempt;
 use attempt::Event;
-use client_step::stepping::step;
 use client_start::start;
+use client_step::stepping::step;
 use information::Presence;
 
 // The record of a start that is not refused.

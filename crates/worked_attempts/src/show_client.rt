@@ -11,8 +11,8 @@ use attempt::End;
 use attempt::Event;
 use attempt::StartAnswer;
 use attempt::own::own_list;
-use client_step::stepping::step;
 use client_start::start;
+use client_step::stepping::step;
 use information::Presence;
 
 // A start with table 14, 12, 10, which may be refused.

@@ -2,11 +2,11 @@
 use crate::say::refused;
 use crate::say::text;
 use crate::say::version;
+use choosing::Choice;
 use choosing::choose_from;
 use information::Presence;
 use server::Decision;
 use server::choose_after_first_flight;
-use choosing::Choice;
 
 // The choice of a server that reads 3, after a first flight.
 pub(crate) fn decision(

@@ -11,10 +11,10 @@ use information::read_information;
 use information::write_information;
 use invariants::Header;
 use invariants::reader::read_header;
+use lists::Span;
 use negotiation::write_version_negotiation;
 use refusals::Call;
 use refusals::Written;
-use lists::Span;
 
 fn long_form(number: u32, destination: Span, source: Span, rest: Span) {
     version(b"long form, version ", number);
