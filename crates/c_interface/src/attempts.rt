@@ -15,8 +15,7 @@ use c_record::Record;
 use c_record::RecordAndRefusal;
 use c_record::attempts::own_of;
 use c_record::attempts::start_record;
-use c_record::attempts::step_record;
-use c_record::coding::is_record;
+use c_record::events::step_record;
 use versions::MAX_TABLE;
 
 // One event in place. `kind` is 0 for a datagram, 1 for a processed packet, 2 for an outcome with information given,
@@ -61,13 +60,14 @@ pub extern "C" fn qv_own_list(
     ensures list { λ _. ⌜ now (versions .exit) ≡ cond (isRecord held) (padded maxTable (ownOf (attemptOf held))) (now (versions .entry)) ⌝ }
     ensures counted { λ _. ⌜ now (count .exit) ≡ cond (isRecord held) (length (ownOf (attemptOf held))) (now (count .entry)) ⌝ }
 {
-    if !is_record(held) {
+    let own = own_of(held);
+    if !own.known {
         return NOT_VALID;
     }
-    let own = own_of(held);
-    let list = own.versions;
-    *versions = list;
-    *count = own.count;
+    let list = own.list;
+    let places = list.versions;
+    *versions = places;
+    *count = list.count;
     0
 }
 

@@ -1,3 +1,3 @@
+pub mod Applied
 pub mod Lossless
 pub mod Records
-pub mod Applied

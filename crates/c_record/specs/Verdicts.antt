@@ -1,45 +1,46 @@
--- What a verdict does to the record without enums.
+-- What a verdict does to the record without enums, field by field. Private functions promise this; no public promise
+-- names it.
 use Prim.Native.Nat.{ℕ}
 use Rattle.client_step.specs.Verdicts.{attemptedAfter}
 use Rattle.client_step.specs.declared.Verdict.{Verdict}
-use Rattle.client_step.specs.declared.Verdict.the-variants.{Keep, Close, Act, Note, Complete}
+use Rattle.client_step.specs.declared.Verdict.the-variants.{Unchanged, Closed, Acted, Noted, Completed}
 use Rattle.c_record.specs.Records.{Left}
 use Rattle.c_record.specs.declared.Record.{Record}
 
 abbrev pub actedNumber : ℕ → Verdict → ℕ
-actedNumber b (Keep r) = b
-actedNumber b (Close r) = b
-actedNumber b (Act w) = 1
-actedNumber b Note = b
-actedNumber b (Complete w) = b
+actedNumber b (Unchanged r) = b
+actedNumber b (Closed r) = b
+actedNumber b (Acted v) = 1
+actedNumber b Noted = b
+actedNumber b (Completed v) = b
 
 abbrev pub heardNumber : ℕ → Verdict → ℕ
-heardNumber b (Keep r) = b
-heardNumber b (Close r) = b
-heardNumber b (Act w) = b
-heardNumber b Note = 1
-heardNumber b (Complete w) = b
+heardNumber b (Unchanged r) = b
+heardNumber b (Closed r) = b
+heardNumber b (Acted v) = b
+heardNumber b Noted = 1
+heardNumber b (Completed v) = b
 
 abbrev pub markAfter : ℕ → Verdict → ℕ
-markAfter m (Keep r) = m
-markAfter m (Close r) = 2
-markAfter m (Act w) = m
-markAfter m Note = m
-markAfter m (Complete w) = 1
+markAfter m (Unchanged r) = m
+markAfter m (Closed r) = 2
+markAfter m (Acted v) = m
+markAfter m Noted = m
+markAfter m (Completed v) = 1
 
 abbrev pub valueAfter : ℕ → Verdict → ℕ
-valueAfter x (Keep r) = x
-valueAfter x (Close r) = r .0
-valueAfter x (Act w) = x
-valueAfter x Note = x
-valueAfter x (Complete w) = w
+valueAfter x (Unchanged r) = x
+valueAfter x (Closed r) = r .0
+valueAfter x (Acted v) = x
+valueAfter x Noted = x
+valueAfter x (Completed v) = v
 
 abbrev pub numberOf : Verdict → ℕ
-numberOf (Keep r) = r .0
-numberOf (Close r) = r .0
-numberOf (Act w) = 0
-numberOf Note = 0
-numberOf (Complete w) = 0
+numberOf (Unchanged r) = r .0
+numberOf (Closed r) = r .0
+numberOf (Acted v) = 0
+numberOf Noted = 0
+numberOf (Completed v) = 0
 
 -- The record and the number after a verdict
 abbrev pub appliedRecord : Record → Verdict → Left

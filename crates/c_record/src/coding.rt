@@ -10,61 +10,6 @@ use attempt::End;
 use attempt::MAX_ID;
 use versions::MAX_TABLE;
 
-// How an attempt ended, by its mark.
-fn end_of(mark: u32, value: u32) -> End
-    requires { ⌜ markFits mark value ≡ true ⌝ }
-    ensures { λ r. ⌜ r ≡ endOf mark value ⌝ }
-{
-    if mark == 0 {
-        return End::Open;
-    }
-    if mark == 1 {
-        return End::Completed(value);
-    }
-    End::Closed(value as u8)
-}
-
-fn mark_of(end: End) -> u32
-    ensures { λ r. ⌜ r ≡ markOf end ⌝ }
-{
-    match end {
-        End::Open => 0,
-        End::Completed(_) => 1,
-        End::Closed(_) => 2,
-    }
-}
-
-fn value_of(end: End) -> u32
-    ensures { λ r. ⌜ r ≡ markValue end ⌝ }
-{
-    match end {
-        End::Open => 0,
-        End::Completed(version) => version,
-        End::Closed(number) => number as u32,
-    }
-}
-
-fn flag_of(set: bool) -> u32
-    ensures { λ r. ⌜ r ≡ flag set ⌝ }
-{
-    if set { 1 } else { 0 }
-}
-
-fn mark_fits(mark: u32, value: u32) -> bool
-    ensures { λ r. ⌜ r ≡ markFits mark value ⌝ }
-{
-    if mark == 0 {
-        return value == 0;
-    }
-    if mark == 1 {
-        return true;
-    }
-    if mark == 2 {
-        return value <= 255;
-    }
-    false
-}
-
 // Whether counts, flags and marks are those that an attempt has. It refuses nothing.
 pub fn is_record(held: Record) -> bool
     ensures { λ r. ⌜ r ≡ isRecord held ⌝ }
@@ -90,6 +35,21 @@ pub fn is_record(held: Record) -> bool
     held.unused == 0
 }
 
+fn mark_fits(mark: u32, value: u32) -> bool
+    ensures { λ r. ⌜ r ≡ markFits mark value ⌝ }
+{
+    if mark == 0 {
+        return value == 0;
+    }
+    if mark == 1 {
+        return true;
+    }
+    if mark == 2 {
+        return value <= 255;
+    }
+    false
+}
+
 pub(crate) fn decode(held: Record) -> Attempt
     requires { ⌜ isRecord held ≡ true ⌝ }
     ensures { λ r. ⌜ r ≡ attemptOf held ⌝ }
@@ -113,6 +73,20 @@ pub(crate) fn decode(held: Record) -> Attempt
         heard: held.heard == 1,
         end,
     }
+}
+
+// How an attempt ended, by its mark.
+fn end_of(mark: u32, value: u32) -> End
+    requires { ⌜ markFits mark value ≡ true ⌝ }
+    ensures { λ r. ⌜ r ≡ endOf mark value ⌝ }
+{
+    if mark == 0 {
+        return End::Open;
+    }
+    if mark == 1 {
+        return End::Completed(value);
+    }
+    End::Closed(value as u8)
 }
 
 pub(crate) fn encode(attempt: Attempt) -> Record
@@ -144,4 +118,30 @@ pub(crate) fn encode(attempt: Attempt) -> Record
         end_value: value,
         unused: 0,
     }
+}
+
+fn mark_of(end: End) -> u32
+    ensures { λ r. ⌜ r ≡ markOf end ⌝ }
+{
+    match end {
+        End::Open => 0,
+        End::Completed(_) => 1,
+        End::Closed(_) => 2,
+    }
+}
+
+fn value_of(end: End) -> u32
+    ensures { λ r. ⌜ r ≡ markValue end ⌝ }
+{
+    match end {
+        End::Open => 0,
+        End::Completed(version) => version,
+        End::Closed(number) => number as u32,
+    }
+}
+
+fn flag_of(set: bool) -> u32
+    ensures { λ r. ⌜ r ≡ flag set ⌝ }
+{
+    if set { 1 } else { 0 }
 }

@@ -1,15 +1,17 @@
 // The attempt's record without enums, as C keeps it, and the client's functions over it: the start, the events, the
 // own list. No function requires anything: a record that no attempt has gets 255 and stays as found.
-pub mod attempts; // the start, the events, the own list
+pub mod attempts; // the start, the own list
 pub mod coding; // the record of an attempt, and back
+pub mod events; // the events
 
 use attempt::MAX_ID;
+use attempt::OwnList;
 use versions::MAX_TABLE;
 
 // The number for what no caller may hand over, outside document 01's table.
 pub const NOT_VALID: u32 = 255;
 
-// The record of an attempt. Fixed-width fields and no padding: 272 bytes.
+// The record of an attempt. Fixed-width fields and no padding.
 #[repr(C)]
 pub struct Record {
     // Bit j of row i: entry j may be answered when entry i is attempted.
@@ -39,4 +41,10 @@ pub struct Record {
 pub struct RecordAndRefusal {
     pub attempt: Record,
     pub refusal: u32,
+}
+
+// The own list of a record's attempt, and whether an attempt has the record at all.
+pub struct KnownOwnList {
+    pub known: bool,
+    pub list: OwnList,
 }

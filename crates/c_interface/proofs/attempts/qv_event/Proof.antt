@@ -49,10 +49,10 @@ use Rattle.c_record.proofs.Record as held
 use Rattle.c_record.proofs.Record.Laws as held-laws
 use Rattle.c_record.proofs.RecordAndRefusal as stepped
 use Rattle.c_record.proofs.RecordAndRefusal.Laws as stepped-laws
-use Rattle.c_record.proofs.attempts.step_record as step
-use Rattle.c_record.proofs.attempts.step_record.Met as step-thm
-use Rattle.c_record.proofs.attempts.step_record.Symbol as step-def
-use Rattle.c_record.proofs.attempts.step_record.Symbol.{name as #step}
+use Rattle.c_record.proofs.events.step_record as step
+use Rattle.c_record.proofs.events.step_record.Met as step-thm
+use Rattle.c_record.proofs.events.step_record.Symbol as step-def
+use Rattle.c_record.proofs.events.step_record.Symbol.{name as #step}
 use Rattle.c_interface.proofs.attempts.qv_event as event
 use Rattle.c_interface.proofs.attempts.qv_event.Code as code
 use Rattle.c_interface.proofs.attempts.qv_event.Key.{name as #event}
@@ -209,4 +209,4 @@ qv-event-spec 𝓤 H 𝓜 𝓖 𝓡 =
     entered 𝓤 H (tripleOf 𝓤 H (𝓖 .A) event.signature (event.spec 𝓤 H (𝓖 .A) (𝓜 .mem) (𝓡 .run)))
     (tables 𝓤 H 𝓜 𝓡 code.env .C) (tables 𝓤 H 𝓜 𝓡 code.env .Λ) #event code.function (code.unfolded 𝓤 H 𝓜 𝓡)
     (event-meets 𝓤 H (𝓖 .A) (givenOf 𝓤 H 𝓜 𝓖) (𝓜 .mem) (𝓡 .run) (tablesOf 𝓤 H 𝓜 (tables 𝓤 H 𝓜 𝓡 code.env))
-    (cited 𝓤 H (StepC 𝓤 H (𝓖 .A) (𝓜 .mem) (𝓡 .run)) 𝓜 𝓡 code.env #step step-def.routine code.calls-c-record·attempts·step-record (step-thm.met 𝓤 H 𝓜 𝓖 𝓡)))
+    (cited 𝓤 H (StepC 𝓤 H (𝓖 .A) (𝓜 .mem) (𝓡 .run)) 𝓜 𝓡 code.env #step step-def.routine code.calls-c-record·events·step-record (step-thm.met 𝓤 H 𝓜 𝓖 𝓡)))

@@ -1,5 +1,5 @@
 -- `qv_own_list` meets its contract: a record that is none is refused, else the own list is copied.
-use mathlib.Core.Bool.{true, false}
+use mathlib.Core.Bool.{Bool, true, false}
 use mathlib.Core.Path.{_≡_, refl, sym, ap, _∙_}
 use borrow.Author.Tests.{not-true, not-false}
 use borrow.Author.Needs.{needs}
@@ -9,27 +9,24 @@ use Rattle.c_record.specs.Records.{isRecord, attemptOf, ownRecord}
 use Rattle.c_interface.proofs.attempts.qv_own_list.Statement.{statement}
 use Rattle.c_interface.proofs.attempts.qv_own_list.Tie as tie
 
-is-held : (c : tie.Else1) → isRecord (c .before .before .args .held) ≡ true
-is-held c = sym (c .before .is-record .ensures) ∙ not-false _ (c .if1 .left)
-
-is-record-requires : tie.Need-is-record-requires
-is-record-requires c κs = search needs
+own-of-requires : tie.Need-own-of-requires
+own-of-requires c κs = search needs
 
 returns : tie.Need-returns
 returns c =
-    let e : isRecord (c .before .before .args .held) ≡ false = sym (c .before .is-record .ensures) ∙ not-true _ (c .if1 .taken) in
+    let own = c .before .before in
+    let e : isRecord (own .before .args .held) ≡ false = sym (own .own-of .ensures .0) ∙ not-true _ (c .if1 .taken) in
     rw e (refl, (refl, refl))
-
-own-of-requires : tie.Need-own-of-requires
-own-of-requires c κs = search needs
 
 returns-2 : tie.Need-returns-2
 unfolding ownRecord
 returns-2 c =
-    let at = c .before .before in
-    let a = attemptOf (at .before .before .args .held) in
-    let own : c .before .own-of .result ≡ ownListOf a = rw (is-held at) at (c .before .own-of .ensures) in
-    rw (is-held at) (refl, (ap (λ (o : OwnList). o .versions) own, ap (λ (o : OwnList). o .count) own))
+    let known = c .before .before in
+    let own = known .before .before in
+    let held = own .before .args .held in
+    let e : isRecord held ≡ true = sym (own .own-of .ensures .0) ∙ not-false _ (known .if1 .left) in
+    let list : own .own-of .result .list ≡ ownListOf (attemptOf held) = rw e at (own .own-of .ensures .1) in
+    rw e (refl, (ap (λ (o : OwnList). o .versions) list, ap (λ (o : OwnList). o .count) list))
 
 pub qv-own-list-spec : {M : Type 1} → statement M
-qv-own-list-spec = tie.close (tie.spec is-record-requires returns own-of-requires returns-2)
+qv-own-list-spec = tie.close (tie.spec own-of-requires returns returns-2)

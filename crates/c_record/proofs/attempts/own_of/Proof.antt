@@ -16,7 +16,9 @@ is-record-requires c κs = search needs
 
 returns : tie.Need-returns
 unfolding ownRecord padded
-returns c = rw (sym (c .before .is-record .ensures) ∙ not-true _ (c .if1 .taken))
+returns c =
+    let e = sym (c .before .is-record .ensures) ∙ not-true _ (c .if1 .taken) in
+    (sym e, rw e)
 
 decode-requires : tie.Need-decode-requires
 decode-requires c κs = is-held c
@@ -27,8 +29,8 @@ own-list-requires c κs = search needs
 returns-2 : tie.Need-returns-2
 unfolding ownRecord
 returns-2 c =
-    rw (is-held (c .before .before))
-    (c .own-list .ensures ∙ ap ownListOf (c .before .decode .ensures))
+    let e = is-held (c .before .before) in
+    (sym e, rw e (c .own-list .ensures ∙ ap ownListOf (c .before .decode .ensures)))
 
 pub own-of-spec : {M : Type 1} → statement M
 own-of-spec =

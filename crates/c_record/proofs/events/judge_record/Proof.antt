@@ -1,23 +1,27 @@
 -- `judge_record` meets its contract: the verdict on the attempt is one on the record.
-use Prim.Native.Nat.{ℕ, _<_}
-use mathlib.Core.Bool.{true}
+use Prim.Native.Nat.{ℕ, _<_, _≤_}
+use mathlib.Core.Bool.{true, false}
 use mathlib.Core.Option.{Option.none}
 use mathlib.Core.Path.{_≡_, sym, ap, _∙_}
 use native.Mathlib.Omega.{arith}
+use lib.Dec.{eqb}
 use borrow.Author.Needs.{needs}
 use borrow.Author.Tests.{ne-eqb, not-true, not-false}
-use Rattle.attempt.specs.Step.{stepOf}
+use Rattle.attempt.specs.Step.{stepOfAny}
 use Rattle.attempt.specs.declared.Attempt.{Attempt}
 use Rattle.client_step.specs.Verdicts.{applied}
+use Rattle.client_step.proofs.Steps.{any-accepted}
 use Rattle.c_record.specs.Records.{isRecord, attemptOf, eventOf, leftAfter}
 use Rattle.c_record.proofs.Applied.{verdict-left}
 use Rattle.c_record.proofs.Records.{record-counts, step-refused, step-known, step-unknown}
-use Rattle.c_record.proofs.attempts.judge_record.Statement.{statement}
-use Rattle.c_record.proofs.attempts.judge_record.Tie as tie
+use Rattle.c_record.proofs.events.judge_record.Statement.{statement}
+use Rattle.c_record.proofs.events.judge_record.Tie as tie
 
 unknown : (k v : ℕ) → 3 < k → eventOf k v ≡ none
 unfolding eventOf
-unknown k v l = rw (ne-eqb k 0 (λ e. omega (arith, l, e)), ne-eqb k 1 (λ e. omega (arith, l, e)), ne-eqb k 2 (λ e. omega (arith, l, e)), ne-eqb k 3 (λ e. omega (arith, l, e)))
+unknown k v l =
+    let other : (n : ℕ) → n ≤ 3 → eqb k n ≡ false = λ n h. ne-eqb k n (λ e. omega (arith, l, h, e)) in
+    rw (other 0 (omega arith), other 1 (omega arith), other 2 (omega arith), other 3 (omega arith))
 
 is-held : (c : tie.Else1) → isRecord (c .before .before .before .args .held) ≡ true
 is-held c = sym (c .before .is-record .ensures) ∙ not-false _ (c .if1 .left)
@@ -43,10 +47,7 @@ decode-requires : tie.Need-decode-requires
 decode-requires c κs = is-held (c .before .before)
 
 judge-requires : tie.Need-judge-requires
-judge-requires c κs =
-    let h = c .before .before .before in
-    let g = h .before .before .before .args in
-    rw (c .decode .ensures) (record-counts (g .held) (is-held h))
+judge-requires c κs = search needs
 
 returns-3 : tie.Need-returns-3
 returns-3 c =
@@ -57,7 +58,8 @@ returns-3 c =
     ap leftAfter
     (ap (λ (a : Attempt). applied a (c .judge .result)) (sym (c .before .decode .ensures)) ∙
     c .judge .ensures ∙
-    ap (λ (a : Attempt). stepOf a e (g .bytes .now)) (c .before .decode .ensures)) ∙
+    ap (λ (a : Attempt). stepOfAny a e (g .bytes .now)) (c .before .decode .ensures) ∙
+    sym (any-accepted (attemptOf (g .held)) e (g .bytes .now) (record-counts (g .held) (is-held h)))) ∙
     step-known (g .held) (g .kind) (g .value) (g .bytes .now) (is-held h) (c .before .before .event-of .ensures)
 
 pub judge-record-spec : {M : Type 1} → statement M

@@ -1,8 +1,7 @@
 -- `step_record` meets its contract: the verdict, applied field by field.
-use mathlib.Core.Path.{_∙_}
 use borrow.Author.Needs.{needs}
-use Rattle.c_record.proofs.attempts.step_record.Statement.{statement}
-use Rattle.c_record.proofs.attempts.step_record.Tie as tie
+use Rattle.c_record.proofs.events.step_record.Statement.{statement}
+use Rattle.c_record.proofs.events.step_record.Tie as tie
 
 judge-record-requires : tie.Need-judge-record-requires
 judge-record-requires c κs = search needs
@@ -27,9 +26,20 @@ number-of-requires c κs = search needs
 
 returns : tie.Need-returns
 returns c =
-    let n = c in
-    rw (n .number-of .ensures, n .before .value-after .ensures, n .before .before .mark-after .ensures, n .before .before .before .heard-after .ensures, n .before .before .before .before .acted-after .ensures, n .before .before .before .before .before .attempted-after .ensures)
-    (n .before .before .before .before .before .before .judge-record .ensures)
+    let value = c .before in
+    let mark = value .before in
+    let heard = mark .before in
+    let acted = heard .before in
+    let attempted = acted .before in
+    rw (
+      c .number-of .ensures,
+      value .value-after .ensures,
+      mark .mark-after .ensures,
+      heard .heard-after .ensures,
+      acted .acted-after .ensures,
+      attempted .attempted-after .ensures,
+    )
+    (attempted .before .judge-record .ensures)
 
 pub step-record-spec : {M : Type 1} → statement M
 step-record-spec =

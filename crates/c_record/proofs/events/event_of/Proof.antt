@@ -2,8 +2,8 @@
 use native.Mathlib.Omega.{arith}
 use borrow.Author.Tests.{eq-eqb, ne-eqb}
 use Rattle.c_record.specs.Records.{eventOf}
-use Rattle.c_record.proofs.attempts.event_of.Statement.{statement}
-use Rattle.c_record.proofs.attempts.event_of.Tie as tie
+use Rattle.c_record.proofs.events.event_of.Statement.{statement}
+use Rattle.c_record.proofs.events.event_of.Tie as tie
 
 returns : tie.Need-returns
 unfolding eventOf
