@@ -7,8 +7,7 @@ use quic_version::{Attempt, End, Refusal};
 
 /// The record that the header describes for a model's attempt.
 fn record_of(attempt: &model::Attempt) -> Record {
-    let mut record = blank();
-    record.end_mark = 0;
+    let mut record = Record::default();
     for (i, from) in attempt.table.iter().enumerate() {
         record.table[i] = *from;
         for (j, to) in attempt.table.iter().enumerate() {
@@ -45,20 +44,8 @@ fn put_changes(record: &mut Record, attempt: &model::Attempt) {
 /// What a refused start hands back: no attempt, closed with 0.
 fn blank() -> Record {
     Record {
-        rows: [0; 16],
-        table: [0; 16],
-        destination: [0; 20],
-        source: [0; 20],
-        table_len: 0,
-        destination_len: 0,
-        source_len: 0,
-        original: 0,
-        attempted: 0,
-        acted: 0,
-        heard: 0,
         end_mark: 2,
-        end_value: 0,
-        unused: 0,
+        ..Record::default()
     }
 }
 
