@@ -57,8 +57,8 @@ pub struct Started {
 }
 
 // The layout of the header, in every build: the sizes of the fields add up to the size of the
-// record, so there is no padding, and each field lies where the ones before it end. Their order, and
-// the library's own layout, are for tests/layout.rs.
+// record, so there is no padding, and each field lies where the ones before it end. Their order
+// and the library's own layout are for tests/layout.rs.
 
 /// Bytes of a record.
 pub const RECORD_SIZE: usize = 8 * MAX_TABLE + 4 * MAX_TABLE + 2 * MAX_ID + 4 * 10;

@@ -209,6 +209,9 @@ fn unknown_but(last: u32, count: usize) -> Vec<u32> {
     (1_000..).take(count - 1).chain([last]).collect()
 }
 
+/// No event has this kind.
+const UNKNOWN_KIND: u32 = 4;
+
 /// Events on a record without an unused place, on their longest way: the peer has one version of
 /// ours, the last of the table but the Original.
 fn full_events(table: &mut Table) {
@@ -239,18 +242,23 @@ fn full_events(table: &mut Table) {
     let record = Part(raw::start(&versions, &pairs, original, &destination, &source).attempt);
     let packet = &packet[..];
     let refused = u32::from(Refusal::NotValid.number());
-    assert_eq!(raw::event(&mut record.0.clone(), 4, 0, packet), refused);
-    assert_eq!(begun.copies().1.event(4, 0, packet), refused);
+    assert_eq!(
+        raw::event(&mut record.0.clone(), UNKNOWN_KIND, 0, packet),
+        refused
+    );
+    assert_eq!(begun.copies().1.event(UNKNOWN_KIND, 0, packet), refused);
     table.row(
         "event: unknown kind, refused with 255, full table",
         calls!(raw::event(
             &mut opaque(&record.0).clone(),
-            opaque(4),
+            opaque(UNKNOWN_KIND),
             opaque(0),
             opaque(packet)
         )),
-        calls!(opaque(&begun.plain.0)
-            .clone()
-            .event(opaque(4), opaque(0), opaque(packet))),
+        calls!(opaque(&begun.plain.0).clone().event(
+            opaque(UNKNOWN_KIND),
+            opaque(0),
+            opaque(packet)
+        )),
     );
 }
