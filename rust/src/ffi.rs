@@ -14,7 +14,7 @@ pub const MAX_ID: usize = 20;
 
 /// `struct qv_attempt`. Its fields are read and written by the library alone.
 #[repr(C)]
-#[derive(Clone, Copy, Debug, PartialEq, Eq)]
+#[derive(Clone, Copy, Debug, Default, PartialEq, Eq)]
 pub struct Record {
     /// Bit j of row i: entry j may be answered when entry i is attempted.
     pub rows: [u64; MAX_TABLE],
@@ -56,8 +56,9 @@ pub struct Started {
     pub refusal: u32,
 }
 
-// The layout of the header: the sizes of the fields add up to the size of the record, so there is no
-// padding, and each field lies where the ones before it end.
+// The layout of the header, in every build: the sizes of the fields add up to the size of the
+// record, so there is no padding, and each field lies where the ones before it end. Their order
+// and the library's own layout are for tests/layout.rs.
 
 /// Bytes of a record.
 pub const RECORD_SIZE: usize = 8 * MAX_TABLE + 4 * MAX_TABLE + 2 * MAX_ID + 4 * 10;
@@ -403,37 +404,4 @@ pub fn event(attempt: &mut Record, kind: u32, value: u32, bytes: &[u8]) -> u32 {
 pub fn own_list(attempt: &Record, versions: &mut [u32; MAX_TABLE], count: &mut usize) -> u32 {
     // SAFETY: references do not overlap, any record is allowed.
     unsafe { header::qv_own_list(*attempt, versions, count) }
-}
-
-#[cfg(test)]
-mod tests {
-    use super::*;
-    use std::mem::MaybeUninit;
-    use std::ptr::addr_of;
-
-    #[test]
-    fn each_field_lies_where_the_header_has_it() {
-        let record = MaybeUninit::<Record>::uninit();
-        let at = record.as_ptr();
-        macro_rules! offset {
-            ($field:ident) => {
-                // SAFETY: the place of a field is asked for, nothing is read.
-                unsafe { addr_of!((*at).$field) as usize - at as usize }
-            };
-        }
-        assert_eq!(offset!(rows), 0);
-        assert_eq!(offset!(table), 128);
-        assert_eq!(offset!(destination), 192);
-        assert_eq!(offset!(source), 212);
-        assert_eq!(offset!(table_len), 232);
-        assert_eq!(offset!(destination_len), 236);
-        assert_eq!(offset!(source_len), 240);
-        assert_eq!(offset!(original), 244);
-        assert_eq!(offset!(attempted), 248);
-        assert_eq!(offset!(acted), 252);
-        assert_eq!(offset!(heard), 256);
-        assert_eq!(offset!(end_mark), 260);
-        assert_eq!(offset!(end_value), 264);
-        assert_eq!(offset!(unused), 268);
-    }
 }

@@ -55,8 +55,8 @@ pub use wire::{
 #[doc = include_str!("../../docs/INTEGRATION.md")]
 mod walk_throughs {}
 
-/// The functions of the library with their numbers, for this crate's own tests. No part of the
-/// interface.
+/// The functions of the library with their numbers, for this crate's own tests and benchmark. No
+/// part of the interface.
 #[doc(hidden)]
 pub mod raw {
     pub use crate::ffi::*;

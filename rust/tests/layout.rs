@@ -1,8 +1,10 @@
 //! The record and the numbers of this crate against the library's.
+//!
+//! The sizes that the header has are asserted in src/ffi.rs, when the crate is built.
 
 use quic_version::raw::{self, Record};
 use quic_version::{Attempt, Pair, Refusal};
-use std::mem::{align_of, size_of};
+use std::mem::size_of;
 
 fn place<T>(record: &Record, field: &T) -> usize {
     field as *const T as usize - record as *const Record as usize
@@ -18,12 +20,8 @@ fn interface_version() {
 
 #[test]
 fn sizes() {
-    assert_eq!(size_of::<Record>(), 272);
     assert_eq!(raw::record_size(), size_of::<Record>());
-    assert_eq!(align_of::<Record>(), 8);
-    assert_eq!(size_of::<raw::Started>(), 280);
     assert_eq!(size_of::<Attempt>(), size_of::<Record>());
-    assert_eq!((size_of::<Pair>(), align_of::<Pair>()), (8, 4));
 }
 
 #[test]
@@ -87,20 +85,12 @@ fn record_of_a_start() {
     let started = raw::start(&[14, 12, 10], &pairs, 12, &[0xd1, 0xd2, 0xd3], &[0x51]);
     assert_eq!(started.refusal, 0);
     let mut expected = Record {
-        rows: [0; 16],
-        table: [0; 16],
-        destination: [0; 20],
-        source: [0; 20],
         table_len: 3,
         destination_len: 3,
         source_len: 1,
         original: 12,
         attempted: 12,
-        acted: 0,
-        heard: 0,
-        end_mark: 0,
-        end_value: 0,
-        unused: 0,
+        ..Record::default()
     };
     expected.rows[..3].copy_from_slice(&[0b001, 0b011, 0b110]);
     expected.table[..3].copy_from_slice(&[14, 12, 10]);

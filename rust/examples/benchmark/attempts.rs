@@ -1,0 +1,264 @@
+//! Rows of the client's attempt: starts, own lists, and events on a small and on a full table.
+
+use crate::measure::{calls, grouped, opaque, same, Table};
+use crate::packet::{in_fours, information, long_packet};
+use crate::plain::PlainAttempt;
+use quic_version::{raw, Attempt, Pair, Refusal, MAX_AVAILABLE, MAX_ID, MAX_PAIRS, MAX_TABLE};
+
+pub fn rows(table: &mut Table) {
+    starts(table);
+    small_events(table);
+    full_events(table);
+}
+
+/// What an event answers: a version, or the number of a refusal.
+type Answer = Result<u32, u8>;
+
+/// The library's attempt and plain Rust's, after the same calls. Each begins a part of memory, so
+/// that no copy crosses from one page to the next.
+#[derive(Clone)]
+struct Both {
+    library: Part<Attempt>,
+    plain: Part<PlainAttempt>,
+}
+
+#[derive(Clone)]
+#[repr(align(512))]
+struct Part<T>(T);
+
+impl Both {
+    fn start(
+        versions: &[u32],
+        pairs: &[Pair],
+        original: u32,
+        destination: &[u8],
+        source: &[u8],
+    ) -> Both {
+        let library = Attempt::start(versions, pairs, original, destination, source);
+        let plain = PlainAttempt::start(versions, pairs, original, destination, source);
+        Both::of(library.unwrap(), plain.unwrap())
+    }
+
+    fn of(library: Attempt, plain: PlainAttempt) -> Both {
+        assert_eq!(library.attempted(), plain.attempted);
+        assert_eq!(*library.own_list(), *plain.own_list());
+        Both {
+            library: Part(library),
+            plain: Part(plain),
+        }
+    }
+
+    fn copies(&self) -> (Attempt, PlainAttempt) {
+        (self.library.0.clone(), self.plain.0)
+    }
+
+    /// Both after one more datagram, on which they act.
+    fn acted(&self, packet: &[u8]) -> Both {
+        let (mut library, mut plain) = self.copies();
+        assert!(same(library.datagram(packet), plain.datagram(packet)).is_ok());
+        Both::of(library, plain)
+    }
+
+    fn datagram_row(&self, table: &mut Table, name: &str, datagram: &[u8], answer: Answer) {
+        let (mut library, mut plain) = self.copies();
+        assert_eq!(
+            same(library.datagram(datagram), plain.datagram(datagram)),
+            answer
+        );
+        table.row(
+            name,
+            calls!(opaque(&self.library.0)
+                .clone()
+                .datagram(opaque(datagram))
+                .is_ok()),
+            calls!(opaque(&self.plain.0)
+                .clone()
+                .datagram(opaque(datagram))
+                .is_ok()),
+        );
+    }
+
+    /// An outcome that completes.
+    fn outcome_row(&self, table: &mut Table, name: &str, in_use: u32, bytes: Option<&[u8]>) {
+        let (mut library, mut plain) = self.copies();
+        assert_eq!(
+            same(library.outcome(in_use, bytes), plain.outcome(in_use, bytes)),
+            Ok(in_use)
+        );
+        table.row(
+            name,
+            calls!(opaque(&self.library.0)
+                .clone()
+                .outcome(opaque(in_use), opaque(bytes))
+                .is_ok()),
+            calls!(opaque(&self.plain.0)
+                .clone()
+                .outcome(opaque(in_use), opaque(bytes))
+                .is_ok()),
+        );
+    }
+}
+
+/// A full table, and as many pairs as there may be: each entry to the ones that follow it.
+fn full() -> (Vec<u32>, Vec<Pair>) {
+    let versions: Vec<u32> = (100..).take(MAX_TABLE).collect();
+    let each = (MAX_PAIRS / MAX_TABLE).max(1);
+    let pair = |k| Pair {
+        from: versions[k / each],
+        to: versions[(k / each + 1 + k % each) % MAX_TABLE],
+    };
+    let pairs = (0..MAX_PAIRS).map(pair).collect();
+    (versions, pairs)
+}
+
+fn starts(table: &mut Table) {
+    let (versions, pairs) = full();
+    let (destination, source) = (&[7; 8][..], &[8; 8][..]);
+    let small = (&[14, 12, 10][..], &[][..], 12);
+    for (versions, pairs, original) in [small, (&versions, &pairs, versions[MAX_TABLE / 2 - 1])] {
+        let both = Both::start(versions, pairs, original, destination, source);
+        table.row(
+            &format!("start, {} entries, {} pairs", versions.len(), pairs.len()),
+            calls!(Attempt::start(
+                opaque(versions),
+                opaque(pairs),
+                opaque(original),
+                opaque(destination),
+                opaque(source)
+            )
+            .unwrap()
+            .attempted()),
+            calls!(
+                PlainAttempt::start(
+                    opaque(versions),
+                    opaque(pairs),
+                    opaque(original),
+                    opaque(destination),
+                    opaque(source)
+                )
+                .unwrap()
+                .attempted
+            ),
+        );
+        table.row(
+            &format!("own list, {} entries", versions.len()),
+            calls!(opaque(&both.library.0).own_list().len()),
+            calls!(opaque(&both.plain.0).own_list().len()),
+        );
+    }
+}
+
+fn copy_row(table: &mut Table, begun: &Both) {
+    // Kept in a place that the compiler cannot tell from another.
+    let (mut kept, mut other) = (
+        [begun.clone(), begun.clone()],
+        [begun.clone(), begun.clone()],
+    );
+    table.row(
+        "copy of the record alone",
+        calls!(kept[opaque(0)]
+            .library
+            .0
+            .clone_from(opaque(&begun.library.0))),
+        calls!(other[opaque(0)].plain.0.clone_from(opaque(&begun.plain.0))),
+    );
+    assert_eq!(
+        kept[opaque(0)].library.0.attempted(),
+        other[opaque(0)].plain.0.attempted
+    );
+}
+
+fn small_events(table: &mut Table) {
+    let (destination, source) = ([0xd1; 8], [0x51; 8]);
+    let pairs = [Pair { from: 14, to: 10 }];
+    let begun = Both::start(&[14, 12, 10], &pairs, 12, &destination, &source);
+    copy_row(table, &begun);
+
+    let packet = long_packet(0xc0, 0, &source, &destination, &in_fours(&[10, 13, 14]));
+    begun.datagram_row(
+        table,
+        "event: Version Negotiation, acts (35 bytes, 3 entries)",
+        &packet,
+        Ok(14),
+    );
+    let other = long_packet(0xc0, 12, &source, &destination, &[9; 1_177]);
+    begun.datagram_row(
+        table,
+        "event: another datagram, ignored (1,200 bytes)",
+        &other,
+        Err(61),
+    );
+    let (mut library, mut plain) = begun.copies();
+    assert!(same(library.packet_processed(), plain.packet_processed()).is_ok());
+    table.row(
+        "event: packet processed",
+        calls!(opaque(&begun.library.0).clone().packet_processed().is_ok()),
+        calls!(opaque(&begun.plain.0).clone().packet_processed().is_ok()),
+    );
+    begun.acted(&packet).outcome_row(
+        table,
+        "event: outcome after acting, completes (12 bytes)",
+        14,
+        Some(&information(14, &[13, 14])),
+    );
+    begun.outcome_row(table, "event: outcome, information missing", 12, None);
+}
+
+/// Versions of a peer: none of ours but one, in the last place.
+fn unknown_but(last: u32, count: usize) -> Vec<u32> {
+    (1_000..).take(count - 1).chain([last]).collect()
+}
+
+/// No event has this kind.
+const UNKNOWN_KIND: u32 = 4;
+
+/// Events on a record without an unused place, on their longest way: the peer has one version of
+/// ours, the last of the table but the Original.
+fn full_events(table: &mut Table) {
+    let (versions, pairs) = full();
+    let (shared, original) = (versions[MAX_TABLE - 2], versions[MAX_TABLE - 1]);
+    let (destination, source) = ([0xd1; MAX_ID], [0x51; MAX_ID]);
+    let begun = Both::start(&versions, &pairs, original, &destination, &source);
+
+    let list = in_fours(&unknown_but(shared, MAX_TABLE));
+    let packet = long_packet(0xc0, 0, &source, &destination, &list);
+    let name = format!(
+        "event: Version Negotiation, acts ({} bytes, {} entries), full table",
+        packet.len(),
+        MAX_TABLE
+    );
+    begun.datagram_row(table, &name, &packet, Ok(shared));
+
+    let bytes = information(shared, &unknown_but(shared, MAX_AVAILABLE));
+    let name = format!(
+        "event: outcome after acting, completes ({} bytes), full table",
+        grouped(bytes.len())
+    );
+    begun
+        .acted(&packet)
+        .outcome_row(table, &name, shared, Some(&bytes));
+
+    // The crate has no such event: both sides by their numbers.
+    let record = Part(raw::start(&versions, &pairs, original, &destination, &source).attempt);
+    let packet = &packet[..];
+    let refused = u32::from(Refusal::NotValid.number());
+    assert_eq!(
+        raw::event(&mut record.0.clone(), UNKNOWN_KIND, 0, packet),
+        refused
+    );
+    assert_eq!(begun.copies().1.event(UNKNOWN_KIND, 0, packet), refused);
+    table.row(
+        "event: unknown kind, refused with 255, full table",
+        calls!(raw::event(
+            &mut opaque(&record.0).clone(),
+            opaque(UNKNOWN_KIND),
+            opaque(0),
+            opaque(packet)
+        )),
+        calls!(opaque(&begun.plain.0).clone().event(
+            opaque(UNKNOWN_KIND),
+            opaque(0),
+            opaque(packet)
+        )),
+    );
+}

@@ -1,0 +1,50 @@
+//! Nanoseconds for each call of the library, beside plain Rust that does the same work, in the same
+//! run; printed as a table in Markdown.
+//!
+//!     cargo run --release --example benchmark
+//!     cargo run --release --example benchmark -- --only TEXT
+//!
+//! The second measures the rows alone whose name contains TEXT.
+//!
+//! Each number is the median of several runs, library and plain Rust by turns. The plain functions
+//! are simple loops and are not inlined into the measuring loop; a call of the library is not
+//! either. An event changes the record, so each of its calls begins with a copy of the record; the
+//! first row of the events is that copy alone.
+
+mod attempts;
+mod choices;
+mod measure;
+#[path = "../../tests/random/packet.rs"]
+mod packet;
+mod plain;
+mod wire;
+
+use measure::Table;
+use std::env;
+use std::process::exit;
+
+fn main() {
+    let mut table = Table::begin(only());
+    wire::rows(&mut table);
+    attempts::rows(&mut table);
+    choices::rows(&mut table);
+    table.end();
+    println!();
+    println!(
+        "Record: {} bytes.",
+        std::mem::size_of::<quic_version::Attempt>()
+    );
+}
+
+/// The text that a row's name has to contain, if one is asked for.
+fn only() -> Option<String> {
+    let arguments: Vec<String> = env::args().skip(1).collect();
+    match &arguments[..] {
+        [] => None,
+        [option, text] if option == "--only" => Some(text.clone()),
+        _ => {
+            eprintln!("benchmark: no option, or --only TEXT");
+            exit(2)
+        }
+    }
+}

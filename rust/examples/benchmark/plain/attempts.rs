@@ -1,0 +1,211 @@
+//! The client's attempt, in a record of the library's size that is changed where it lies.
+
+use super::choices::{are_pairs, is_table};
+use super::lists;
+use super::wire::{read_header, read_information};
+use quic_version::{Attempt, Pair, MAX_ID, MAX_TABLE};
+use std::mem::size_of;
+
+#[derive(Clone, Copy)]
+pub struct PlainAttempt {
+    rows: [u64; MAX_TABLE],
+    table: [u32; MAX_TABLE],
+    table_len: u32,
+    destination: [u8; MAX_ID],
+    destination_len: u32,
+    source: [u8; MAX_ID],
+    source_len: u32,
+    original: u32,
+    pub attempted: u32,
+    acted: bool,
+    heard: bool,
+    ended: Option<Result<u32, u8>>,
+    /// Both sides copy as many bytes.
+    _unused: [u32; 2],
+}
+
+const _: () = assert!(size_of::<PlainAttempt>() == size_of::<Attempt>());
+
+pub struct OwnList([u32; MAX_TABLE], usize);
+
+impl std::ops::Deref for OwnList {
+    type Target = [u32];
+
+    fn deref(&self) -> &[u32] {
+        &self.0[..self.1]
+    }
+}
+
+impl PlainAttempt {
+    #[inline(never)]
+    pub fn start(
+        table: &[u32],
+        pairs: &[Pair],
+        original: u32,
+        destination: &[u8],
+        source: &[u8],
+    ) -> Result<PlainAttempt, u8> {
+        if !is_table(table) {
+            return Err(41);
+        }
+        if !are_pairs(pairs) {
+            return Err(43);
+        }
+        if !table.contains(&original) {
+            return Err(44);
+        }
+        if destination.len() > MAX_ID || source.len() > MAX_ID {
+            return Err(45);
+        }
+        let mut attempt = PlainAttempt {
+            rows: [0; MAX_TABLE],
+            table: [0; MAX_TABLE],
+            table_len: table.len() as u32,
+            destination: [0; MAX_ID],
+            destination_len: destination.len() as u32,
+            source: [0; MAX_ID],
+            source_len: source.len() as u32,
+            original,
+            attempted: original,
+            acted: false,
+            heard: false,
+            ended: None,
+            _unused: [0; 2],
+        };
+        attempt.table[..table.len()].copy_from_slice(table);
+        attempt.destination[..destination.len()].copy_from_slice(destination);
+        attempt.source[..source.len()].copy_from_slice(source);
+        for (place, from) in table.iter().enumerate() {
+            attempt.rows[place] |= 1 << place;
+            for pair in pairs {
+                if pair.from == *from {
+                    if let Some(to) = table.iter().position(|v| *v == pair.to) {
+                        attempt.rows[place] |= 1 << to;
+                    }
+                }
+            }
+        }
+        Ok(attempt)
+    }
+
+    fn table(&self) -> &[u32] {
+        &self.table[..self.table_len as usize]
+    }
+
+    fn is_own(&self, version: u32) -> bool {
+        let place = |version| self.table().iter().position(|v| *v == version);
+        match (place(self.attempted), place(version)) {
+            (Some(from), Some(to)) => self.rows[from] >> to & 1 == 1,
+            _ => false,
+        }
+    }
+
+    #[inline(never)]
+    pub fn own_list(&self) -> OwnList {
+        let mut own = OwnList([0; MAX_TABLE], 0);
+        if let Some(at) = self.table().iter().position(|v| *v == self.attempted) {
+            for (place, version) in self.table().iter().enumerate() {
+                if self.rows[at] >> place & 1 == 1 {
+                    own.0[own.1] = *version;
+                    own.1 += 1;
+                }
+            }
+        }
+        own
+    }
+
+    /// An event by its number in the C header, 255 for an unknown kind.
+    #[inline(never)]
+    pub fn event(&mut self, kind: u32, value: u32, bytes: &[u8]) -> u32 {
+        let answer = match kind {
+            0 => self.datagram(bytes).map(|_| ()),
+            1 => self.packet_processed(),
+            2 => self.outcome(value, Some(bytes)).map(|_| ()),
+            3 => self.outcome(value, None).map(|_| ()),
+            _ => Err(255),
+        };
+        answer.map_or_else(u32::from, |()| 0)
+    }
+
+    #[inline(never)]
+    pub fn datagram(&mut self, datagram: &[u8]) -> Result<u32, u8> {
+        let header = match read_header(datagram, 0) {
+            Ok(header) if header.version == Some(0) => header,
+            _ => return Err(61),
+        };
+        if self.ended.is_some() || self.acted || self.heard {
+            return Err(62);
+        }
+        if *header.destination != self.source[..self.source_len as usize]
+            || *header.source != self.destination[..self.destination_len as usize]
+        {
+            return Err(63);
+        }
+        if lists(header.rest, self.original) {
+            return Err(64);
+        }
+        let listed = |version: &u32| lists(header.rest, *version);
+        match self.table().iter().copied().find(listed) {
+            Some(version) => {
+                self.attempted = version;
+                self.acted = true;
+                Ok(version)
+            }
+            None => self.close(65),
+        }
+    }
+
+    fn close(&mut self, no: u8) -> Result<u32, u8> {
+        self.ended = Some(Err(no));
+        Err(no)
+    }
+
+    #[inline(never)]
+    pub fn packet_processed(&mut self) -> Result<(), u8> {
+        if self.ended.is_some() {
+            return Err(62);
+        }
+        self.heard = true;
+        Ok(())
+    }
+
+    #[inline(never)]
+    pub fn outcome(&mut self, in_use: u32, information: Option<&[u8]>) -> Result<u32, u8> {
+        if self.ended.is_some() {
+            return Err(62);
+        }
+        match self.judge(in_use, information) {
+            Ok(()) => {
+                self.ended = Some(Ok(in_use));
+                Ok(in_use)
+            }
+            Err(no) => self.close(no),
+        }
+    }
+
+    fn judge(&self, in_use: u32, information: Option<&[u8]>) -> Result<(), u8> {
+        let (chosen, available) = match information {
+            Some(bytes) => read_information(false, bytes)?,
+            None if self.acted && self.attempted == 1 => (1, &[0, 0, 0, 1][..]),
+            None if self.acted => return Err(71),
+            None if in_use == self.attempted => return Ok(()),
+            None => return Err(73),
+        };
+        if !self.is_own(chosen) {
+            return Err(72);
+        }
+        if chosen != in_use {
+            return Err(73);
+        }
+        if self.acted {
+            if available.is_empty() {
+                return Err(74);
+            }
+            let joined = |version: &u32| *version == in_use || lists(available, *version);
+            if self.table().iter().copied().find(joined) != Some(self.attempted) {
+                return Err(75);
+            }
+        }
+        Ok(())
+    }
+}

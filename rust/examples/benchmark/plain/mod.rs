@@ -1,0 +1,19 @@
+//! The same work in plain Rust: simple loops, with the library's refusals in their order. What is
+//! measured is not inlined into the measuring loop.
+
+mod attempts;
+mod choices;
+mod wire;
+
+pub use attempts::PlainAttempt;
+pub use choices::{choose, choose_from_bytes};
+pub use wire::{read_header, read_information, write_information, write_version_negotiation};
+
+fn number(bytes: &[u8]) -> u32 {
+    u32::from_be_bytes([bytes[0], bytes[1], bytes[2], bytes[3]])
+}
+
+/// Whether a list as it lies on the wire holds a version.
+fn lists(list: &[u8], version: u32) -> bool {
+    list.chunks_exact(4).any(|entry| number(entry) == version)
+}

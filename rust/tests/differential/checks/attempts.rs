@@ -1,0 +1,182 @@
+//! Starts and events: the answer, the whole record and the own list after each.
+
+use super::{number, paired, plain, same, Compared, FOUND};
+use crate::model::{self, Event};
+use quic_version::raw::{self, Record};
+use quic_version::{Attempt, End, Refusal};
+
+/// The record that the header describes for a model's attempt.
+fn record_of(attempt: &model::Attempt) -> Record {
+    let mut record = Record::default();
+    for (i, from) in attempt.table.iter().enumerate() {
+        record.table[i] = *from;
+        for (j, to) in attempt.table.iter().enumerate() {
+            if i == j || attempt.pairs.contains(&(*from, *to)) {
+                record.rows[i] |= 1 << j;
+            }
+        }
+    }
+    let (destination, source) = (&attempt.destination, &attempt.source);
+    record.destination[..destination.len()].copy_from_slice(destination);
+    record.source[..source.len()].copy_from_slice(source);
+    record.table_len = attempt.table.len() as u32;
+    record.destination_len = destination.len() as u32;
+    record.source_len = source.len() as u32;
+    record.original = attempt.original;
+    put_changes(&mut record, attempt);
+    record
+}
+
+/// The fields that an event may change.
+fn put_changes(record: &mut Record, attempt: &model::Attempt) {
+    record.attempted = attempt.attempted;
+    record.acted = u32::from(attempt.acted);
+    record.heard = u32::from(attempt.heard);
+    let (mark, value) = match attempt.end {
+        model::End::Open => (0, 0),
+        model::End::Completed(version) => (1, version),
+        model::End::Closed(number) => (2, u32::from(number)),
+    };
+    record.end_mark = mark;
+    record.end_value = value;
+}
+
+/// What a refused start hands back: no attempt, closed with 0.
+fn blank() -> Record {
+    Record {
+        end_mark: 2,
+        ..Record::default()
+    }
+}
+
+/// The own list of a record, past its count too.
+fn check_own_list(record: &Record, own: &[u32]) -> Result<(), String> {
+    let mut padded = [0; 16];
+    padded[..own.len()].copy_from_slice(own);
+    for found in FOUND {
+        let (mut versions, mut count) = ([found; 16], found as usize);
+        same(
+            "own list's answer",
+            raw::own_list(record, &mut versions, &mut count),
+            0,
+        )?;
+        same("own list", (versions, count), (padded, own.len()))?;
+    }
+    Ok(())
+}
+
+fn end_of(end: model::End) -> End {
+    match end {
+        model::End::Open => End::Open,
+        model::End::Completed(version) => End::Completed(version),
+        model::End::Closed(number) => End::Closed(Refusal::from_number(number).unwrap()),
+    }
+}
+
+/// What can be read of the crate's own attempt.
+fn check_attempt(attempt: &Attempt, model: &model::Attempt) -> Result<(), String> {
+    same("attempted", attempt.attempted(), model.attempted)?;
+    same("original", attempt.original(), model.original)?;
+    same("end", attempt.end(), end_of(model.end))?;
+    same("own_list", attempt.own_list().to_vec(), model.own_list())
+}
+
+pub fn check_start(
+    table: &[u32],
+    pairs: &[(u32, u32)],
+    original: u32,
+    destination: &[u8],
+    source: &[u8],
+) -> Compared {
+    let model = model::start(table, pairs, original, destination, source);
+    let pairs = paired(pairs);
+    let started = raw::start(table, &pairs, original, destination, source);
+    same("answer", started.refusal, number(&model))?;
+    let record = model.as_ref().map_or_else(|_| blank(), record_of);
+    same("record", started.attempt, record)?;
+    let own = model
+        .as_ref()
+        .map_or_else(|_| Vec::new(), model::Attempt::own_list);
+    check_own_list(&started.attempt, &own)?;
+    let attempt = Attempt::start(table, &pairs, original, destination, source);
+    match (&attempt, &model) {
+        (Ok(attempt), Ok(model)) => check_attempt(attempt, model)?,
+        _ => same("start", number(&plain(attempt)), number(&model))?,
+    }
+    Ok(number(&model))
+}
+
+/// One event on a record, as the header numbers it.
+pub(super) fn raw_event(record: &mut Record, event: &Event) -> u32 {
+    match event {
+        Event::Datagram(datagram) => raw::event(record, 0, 0xdead_beef, datagram),
+        Event::Processed => raw::event(record, 1, 0xdead_beef, &[1, 2, 3]),
+        Event::Outcome {
+            in_use,
+            information: Some(bytes),
+        } => raw::event(record, 2, *in_use, bytes),
+        Event::Outcome {
+            in_use,
+            information: None,
+        } => raw::event(record, 3, *in_use, &[0, 0, 0]),
+    }
+}
+
+/// One event on the crate's own attempt; the version that it answers, 0 where it has none.
+fn own_event(attempt: &mut Attempt, event: &Event) -> Result<u32, u8> {
+    plain(match event {
+        Event::Datagram(datagram) => attempt.datagram(datagram),
+        Event::Processed => attempt.packet_processed().map(|()| 0),
+        Event::Outcome {
+            in_use,
+            information,
+        } => attempt.outcome(*in_use, information.as_deref()),
+    })
+}
+
+/// A start that is not refused, then the events: the answer and the whole record after each, the
+/// own list, and at last the statement on the whole list. The numbers seen.
+pub fn check_events(
+    table: &[u32],
+    pairs: &[(u32, u32)],
+    original: u32,
+    destination: &[u8],
+    source: &[u8],
+    events: &[Event],
+) -> Result<Vec<u32>, String> {
+    let refused = |no| format!("the start is refused with {}", no);
+    let started = model::start(table, pairs, original, destination, source).map_err(refused)?;
+    let mut model = started.clone();
+    let pairs = paired(pairs);
+    let mut record = raw::start(table, &pairs, original, destination, source).attempt;
+    let mut attempt = Attempt::start(table, &pairs, original, destination, source)
+        .map_err(|no| no.to_string())?;
+    let mut expected = record_of(&model);
+    same("record of the start", record, expected)?;
+    let mut numbers = Vec::new();
+    for (place, event) in events.iter().enumerate() {
+        let at = |difference| format!("event {}: {}", place, difference);
+        let answer = model.event(event);
+        put_changes(&mut expected, &model);
+        same("answer", raw_event(&mut record, event), number(&answer)).map_err(at)?;
+        same("record", record, expected).map_err(at)?;
+        check_own_list(&record, &model.own_list()).map_err(at)?;
+        let value = answer.map(|effect| match effect {
+            model::Effect::Acted(version) | model::Effect::Completed(version) => version,
+            model::Effect::Noted => 0,
+        });
+        same("answer of the crate", own_event(&mut attempt, event), value).map_err(at)?;
+        check_attempt(&attempt, &model).map_err(at)?;
+        numbers.push(number(&answer));
+    }
+    let completed = match attempt.end() {
+        End::Completed(version) => Some(version),
+        _ => None,
+    };
+    same(
+        "completed after the list",
+        completed,
+        model::completed(&started, events),
+    )?;
+    Ok(numbers)
+}

@@ -1,0 +1,63 @@
+//! One comparison for each call of the library: answer, lent places, buffers and record against
+//! the model's, through the numbers of the C header and through the crate's own interface.
+
+mod attempts;
+mod choices;
+mod damaged;
+mod paste;
+mod wire;
+
+pub use attempts::*;
+pub use choices::*;
+pub use damaged::*;
+pub use paste::Paste;
+pub use wire::*;
+
+use crate::model;
+use quic_version::{raw, Pair, Refusal};
+
+/// What lent places hold before a call. Each call is made once with each.
+const FOUND: [u32; 2] = [0x5a5a_5a5a, 0xc3c3_c3c3];
+
+/// The number seen, or what differs.
+pub type Compared = Result<u32, String>;
+
+fn same<T: PartialEq + std::fmt::Debug>(what: &str, library: T, model: T) -> Result<(), String> {
+    if library == model {
+        Ok(())
+    } else {
+        Err(format!(
+            "{}\n    library {:?}\n    model   {:?}",
+            what, library, model
+        ))
+    }
+}
+
+/// An answer of the crate's own interface with its refusal as a number.
+fn plain<T>(answer: Result<T, Refusal>) -> Result<T, u8> {
+    answer.map_err(Refusal::number)
+}
+
+fn number<T>(answer: &Result<T, u8>) -> u32 {
+    match answer {
+        Ok(_) => 0,
+        Err(no) => u32::from(*no),
+    }
+}
+
+fn paired(pairs: &[(u32, u32)]) -> Vec<Pair> {
+    pairs.iter().map(|pair| Pair::from(*pair)).collect()
+}
+
+pub fn check_close_code(refusal: u8, call: u32) -> Compared {
+    let model = model::close_code(refusal, call != 0);
+    same(
+        "close code",
+        raw::close_code(refusal, call),
+        model.unwrap_or(0),
+    )?;
+    if let (0, Some(refusal)) = (call, Refusal::from_number(refusal)) {
+        same("close_code", refusal.close_code(), model)?;
+    }
+    Ok(0)
+}

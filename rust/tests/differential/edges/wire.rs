@@ -1,0 +1,84 @@
+//! Every length of datagrams, buffers and Version Information.
+
+use crate::checks::*;
+use crate::model::Event;
+use crate::random;
+
+#[test]
+fn every_length_of_a_datagram_cut_short() {
+    let whole = random::long_packet(0, 12, &[7; 255], &[8; 3], &[9; 9]);
+    let negotiation = random::long_packet(0, 0, &[7; 3], &[8; 255], &[9; 9]);
+    let short: Vec<u8> = (0..127).cycle().take(300).collect();
+    for datagram in [whole, negotiation, short] {
+        for length in 0..=datagram.len() {
+            let cut = &datagram[..length];
+            for told in [
+                0,
+                1,
+                254,
+                255,
+                256,
+                length.saturating_sub(1),
+                length,
+                usize::MAX,
+            ] {
+                check_read_header(cut, told).unwrap();
+            }
+            check_write_version_negotiation(cut, &[14, 13], 64, 581).unwrap();
+        }
+    }
+}
+
+#[test]
+fn longest_datagrams() {
+    for length in [65_531, 65_532, 65_534, 65_535, 65_536, 65_537, 200_000] {
+        for (first, version) in [(0x80, 0), (0x80, 12), (0x00, 0)] {
+            let mut datagram = random::long_packet(first, version, &[], &[], &[]);
+            datagram[0] = first;
+            datagram.resize(length, 1);
+            check_read_header(&datagram, 0).unwrap();
+            check_read_header(&datagram, 255).unwrap();
+            check_write_version_negotiation(&datagram, &[14, 13], 0, 581).unwrap();
+            let events = [Event::Datagram(datagram)];
+            check_events(&[14, 0x0101_0101], &[], 14, &[], &[], &events).unwrap();
+        }
+    }
+}
+
+#[test]
+fn every_length_of_the_buffer() {
+    let received = random::long_packet(0, 12, &[7; 20], &[8; 3], &[]);
+    let offered: Vec<u32> = (100..116).collect();
+    for room in 0..=100 {
+        check_write_version_negotiation(&received, &offered, 127, room).unwrap();
+        check_write_information(0, 100, &offered, room).unwrap();
+        check_write_information(1, 99, &[], room).unwrap();
+    }
+    for (destination, source) in [(255, 255), (0, 255), (255, 0), (0, 0)] {
+        let (destination, source) = (vec![7; destination], vec![8; source]);
+        let received = random::long_packet(0, 12, &destination, &source, &[1]);
+        for room in 70..=590 {
+            check_write_version_negotiation(&received, &offered, 0, room).unwrap();
+        }
+    }
+}
+
+#[test]
+fn every_number_of_unused_bits() {
+    let received = random::long_packet(0, 12, &[7; 2], &[8], &[]);
+    for bits in 0..=u8::MAX {
+        check_write_version_negotiation(&received, &[14, 13, 10], bits, 30).unwrap();
+    }
+}
+
+#[test]
+fn every_length_of_information() {
+    for sender in [0, 1, 2] {
+        for length in (0..=1_040).chain([2_048, 65_536]) {
+            check_read_information(sender, &vec![1; length]).unwrap();
+        }
+        for entries in 0..=260 {
+            check_write_information(sender, 1, &vec![1; entries], 1_044).unwrap();
+        }
+    }
+}

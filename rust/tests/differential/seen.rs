@@ -1,0 +1,62 @@
+//! The tally of a run: how often each number was seen, and how often each function was called.
+
+use quic_version::Refusal;
+use std::collections::BTreeMap;
+
+/// Document 01's numbers.
+const NUMBERS: [u8; 33] = [
+    11, 12, 13, 21, 22, 23, 24, 25, 26, 31, 32, 33, 34, 35, 36, 37, 40, 41, 42, 43, 44, 45, 51, 61,
+    62, 63, 64, 65, 71, 72, 73, 74, 75,
+];
+
+/// What was seen.
+#[derive(Default)]
+pub struct Seen {
+    numbers: BTreeMap<u32, usize>,
+    functions: BTreeMap<&'static str, usize>,
+}
+
+impl Seen {
+    pub fn note(&mut self, function: &'static str, number: u32) {
+        *self.numbers.entry(number).or_insert(0) += 1;
+        *self.functions.entry(function).or_insert(0) += 1;
+    }
+
+    pub fn join(&mut self, other: Seen) {
+        for (number, count) in other.numbers {
+            *self.numbers.entry(number).or_insert(0) += count;
+        }
+        for (function, count) in other.functions {
+            *self.functions.entry(function).or_insert(0) += count;
+        }
+    }
+
+    /// Comparisons in all.
+    pub fn cases(&self) -> usize {
+        self.functions.values().sum()
+    }
+
+    /// Those of document 01's numbers that were not.
+    pub fn never(&self) -> Vec<u8> {
+        let seen = |number: &u8| self.numbers.contains_key(&u32::from(*number));
+        NUMBERS.iter().copied().filter(|n| !seen(n)).collect()
+    }
+
+    /// What was seen, to print.
+    pub fn table(&self) -> String {
+        let mut text = String::from("\n  number      seen  cause\n");
+        for (number, count) in &self.numbers {
+            let refusal = u8::try_from(*number).ok().and_then(Refusal::from_number);
+            let cause = match refusal {
+                Some(refusal) => refusal.to_string(),
+                None => String::from("no refusal"),
+            };
+            text += &format!("  {:>6} {:>9}  {}\n", number, count, cause);
+        }
+        text += "\n  compared  function\n";
+        for (function, count) in &self.functions {
+            text += &format!("  {:>8}  {}\n", count, function);
+        }
+        text + &format!("  {:>8}  in all\n", self.cases())
+    }
+}

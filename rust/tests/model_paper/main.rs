@@ -1,0 +1,32 @@
+//! The model against document 01's worked calls, its edges and slips that
+//! well-known implementations made; and the seeded inputs' reach.
+
+mod attempts;
+mod choices;
+#[path = "../model/mod.rs"]
+mod model;
+#[path = "../random/mod.rs"]
+mod random;
+mod reach;
+mod wire;
+
+use model::close_code;
+use random::{in_fours, long_packet};
+
+/// A Version Negotiation packet.
+fn packet(destination: &[u8], source: &[u8], list: &[u32]) -> Vec<u8> {
+    long_packet(0, 0, destination, source, &in_fours(list))
+}
+
+#[test]
+fn close_codes() {
+    for number in 0..=u8::MAX {
+        let code = match number {
+            31..=36 => Some(0x08),
+            51 | 71 | 72 | 73 | 74 | 75 => Some(0x11),
+            _ => None,
+        };
+        assert_eq!(close_code(number, false), code, "{}", number);
+        assert_eq!(close_code(number, true), None, "{}", number);
+    }
+}

@@ -1,0 +1,137 @@
+//! The seeded inputs: every answer comes up, and the same seed gives the same inputs.
+
+use crate::model::*;
+use crate::random::Random;
+use std::collections::BTreeMap;
+
+/// How often each answer came up: a refusal's number, or 0 for none.
+#[derive(Default)]
+struct Reach(BTreeMap<u8, usize>);
+
+impl Reach {
+    fn note<T>(&mut self, answer: &Result<T, u8>) {
+        let number = answer.as_ref().err().copied().unwrap_or(0);
+        *self.0.entry(number).or_insert(0) += 1;
+    }
+
+    /// Exactly these numbers came up, each at least `least` times.
+    #[track_caller]
+    fn holds(&self, numbers: &[u8], least: usize) {
+        let all: Vec<u8> = self.0.keys().copied().collect();
+        assert_eq!(all, numbers, "{:?}", self.0);
+        assert!(self.0.values().all(|n| *n >= least), "{:?}", self.0);
+    }
+}
+
+#[test]
+fn reach_of_the_calls() {
+    let mut random = Random::new(1);
+    let (mut read, mut write, mut choice) = <(Reach, Reach, Reach)>::default();
+    let (mut server, mut starts) = <(Reach, Reach)>::default();
+    let (mut client_reads, mut server_reads) = <(Reach, Reach)>::default();
+    let (mut client_writes, mut server_writes) = <(Reach, Reach)>::default();
+    for _ in 0..4_000 {
+        let c = random.read_call();
+        read.note(&read_header(&c.datagram, c.told));
+        let c = random.negotiation_call();
+        write.note(&version_negotiation(
+            &c.received,
+            &c.offered,
+            c.unused_bits,
+            c.room,
+        ));
+        let (table, list) = random.choose_call();
+        choice.note(&choose(&table, &list));
+        let (sender, bytes) = random.information_bytes();
+        match sender {
+            Sender::Client => client_reads.note(&read_information(sender, &bytes)),
+            Sender::Server => server_reads.note(&read_information(sender, &bytes)),
+        }
+        let c = random.information_call();
+        let answer = information(c.sender, c.chosen, &c.available, c.room);
+        match c.sender {
+            Sender::Client => client_writes.note(&answer),
+            Sender::Server => server_writes.note(&answer),
+        }
+        let c = random.server_call();
+        server.note(&server_choice(
+            &c.readable,
+            &c.accepted,
+            &c.pairs,
+            c.version,
+            c.information.as_deref(),
+        ));
+        let c = random.start_call();
+        starts.note(&c.start());
+    }
+    read.holds(&[0, 11, 12, 13], 40);
+    write.holds(&[0, 11, 12, 21, 22, 23, 24, 25, 26], 40);
+    choice.holds(&[0, 40, 41, 42], 40);
+    client_reads.holds(&[0, 31, 32, 33, 34, 35, 36], 20);
+    server_reads.holds(&[0, 31, 32, 33, 34, 35], 20);
+    client_writes.holds(&[0, 33, 34, 35, 36, 37], 20);
+    server_writes.holds(&[0, 33, 34, 35, 37], 20);
+    server.holds(&[0, 31, 32, 33, 34, 35, 36, 41, 43, 51], 20);
+    starts.holds(&[0, 41, 43, 44, 45], 40);
+}
+
+/// Event lists: their reach, and the step by step answer against the
+/// statement on the whole list.
+#[test]
+fn reach_of_the_events() {
+    let mut random = Random::new(2);
+    let mut reach = Reach::default();
+    let (mut acted, mut stood_in, mut by_pair, mut after_heard) = (0, 0, 0, 0);
+    for round in 0..8_000 {
+        let c = random.good_start_call();
+        let started = c.start().unwrap();
+        let events = random.events(&started);
+        assert!(events.len() <= 12);
+        let mut attempt = started.clone();
+        for event in &events {
+            let before = attempt.clone();
+            let answer = attempt.event(event);
+            reach.note(&answer);
+            match answer {
+                Err(61..=64) => assert_eq!(attempt, before),
+                Err(no) => assert_eq!(attempt.end, End::Closed(no)),
+                Ok(Effect::Completed(v)) => assert_eq!(attempt.end, End::Completed(v)),
+                Ok(_) => assert_eq!(attempt.end, End::Open),
+            }
+            if let (Ok(Effect::Completed(v)), Event::Outcome { information, .. }) = (answer, event)
+            {
+                acted += usize::from(attempt.acted);
+                stood_in += usize::from(attempt.acted && information.is_none());
+                by_pair += usize::from(attempt.acted && v != attempt.attempted);
+                after_heard += usize::from(attempt.heard);
+            }
+        }
+        let end = match attempt.end {
+            End::Completed(v) => Some(v),
+            _ => None,
+        };
+        assert_eq!(completed(&started, &events), end, "round {}", round);
+    }
+    let all = [
+        0, 31, 32, 33, 34, 35, 61, 62, 63, 64, 65, 71, 72, 73, 74, 75,
+    ];
+    reach.holds(&all, 20);
+    for count in [acted, stood_in, by_pair, after_heard] {
+        assert!(count >= 20, "{:?}", (acted, stood_in, by_pair, after_heard));
+    }
+}
+
+#[test]
+fn same_seed_same_inputs() {
+    let (mut one, mut two) = (Random::new(7), Random::new(7));
+    for _ in 0..50 {
+        assert_eq!(
+            one.datagram(b"a", b"bc", &[1]),
+            two.datagram(b"a", b"bc", &[1])
+        );
+    }
+    // The first numbers of splitmix64 from 0.
+    let mut zero = Random::new(0);
+    assert_eq!(zero.next_u64(), 0xe220_a839_7b1d_cdaf);
+    assert_eq!(zero.next_u64(), 0x6e78_9e6a_a1b9_65f4);
+}
