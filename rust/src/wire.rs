@@ -52,27 +52,32 @@ const SHORT: u32 = 2;
 ///   told length is over 255;
 /// - [`ListNotWhole`](Refusal::ListNotWhole) (13): a Version Negotiation list is empty, or bytes
 ///   are left over.
+#[inline]
 pub fn read_header(datagram: &[u8], told: usize) -> Result<Header<'_>, Refusal> {
     let (mut form, mut version, mut places) = (0, 0, [0; 6]);
     let number = ffi::read_header(datagram, told, &mut form, &mut version, &mut places);
-    answer(number, || {
-        let destination = &datagram[places[0]..places[1]];
-        let source = &datagram[places[2]..places[3]];
-        let rest = &datagram[places[4]..places[5]];
-        match form {
-            LONG => Header::Long {
-                version,
-                destination,
-                source,
-                rest,
-            },
-            SHORT => Header::Short { destination, rest },
-            _ => Header::VersionNegotiation {
-                destination,
-                source,
-                list: rest,
-            },
-        }
+    if number != 0 {
+        return Err(Refusal::answered(number));
+    }
+    let [from, to, source_from, source_to, rest_from, rest_to] = places;
+    let destination = &datagram[from..to];
+    let rest = &datagram[rest_from..rest_to];
+    if form == SHORT {
+        return Ok(Header::Short { destination, rest });
+    }
+    let source = &datagram[source_from..source_to];
+    if form == LONG {
+        return Ok(Header::Long {
+            version,
+            destination,
+            source,
+            rest,
+        });
+    }
+    Ok(Header::VersionNegotiation {
+        destination,
+        source,
+        list: rest,
     })
 }
 
