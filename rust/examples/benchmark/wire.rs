@@ -4,12 +4,13 @@ use crate::measure::{calls, grouped, opaque, same, Table};
 use crate::packet::{information, long_packet};
 use crate::plain;
 use quic_version::{
-    read_header, read_information, write_information, write_version_negotiation, Sender,
+    raw, read_header, read_information, write_information, write_version_negotiation, Sender,
     MAX_AVAILABLE, MAX_CONNECTION_ID, MAX_INFORMATION, MAX_PACKET, MAX_TABLE,
 };
 
 pub fn rows(table: &mut Table) {
     headers(table);
+    header_places(table);
     packets(table);
     version_information(table);
 }
@@ -25,10 +26,27 @@ fn headers(table: &mut Table) {
         assert!(read_header(datagram, 0).is_ok() && plain::read_header(datagram, 0).is_ok());
         table.row(
             &format!("header reading, {} bytes", grouped(datagram.len())),
-            calls!(read_header(opaque(datagram), opaque(0)).is_ok()),
-            calls!(plain::read_header(opaque(datagram), opaque(0)).is_ok()),
+            calls!(read_header(opaque(datagram), opaque(0))),
+            calls!(plain::read_header(opaque(datagram), opaque(0))),
         );
     }
+}
+
+/// The C call alone, which leaves places; the rest of the rows above is slices made of them.
+fn header_places(table: &mut Table) {
+    let datagram = &small()[..];
+    let (mut form, mut version, mut places) = (0, 0, [0; 6]);
+    table.row(
+        "header reading, 11 bytes, the C call alone",
+        calls!(raw::read_header(
+            opaque(datagram),
+            opaque(0),
+            &mut form,
+            &mut version,
+            &mut places
+        )),
+        calls!(plain::read_header(opaque(datagram), opaque(0))),
+    );
 }
 
 fn packets(table: &mut Table) {

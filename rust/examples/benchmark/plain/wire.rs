@@ -6,6 +6,7 @@ use quic_version::{
     MAX_AVAILABLE, MAX_CONNECTION_ID, MAX_DATAGRAM, MAX_INFORMATION, MAX_UNUSED_BITS,
 };
 
+#[derive(Clone, Copy)]
 pub struct Header<'a> {
     /// None in a short form.
     pub version: Option<u32>,
