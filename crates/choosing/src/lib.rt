@@ -46,16 +46,6 @@ pub fn prefer_in_bytes(table: &[u32], bytes: &[u8]) -> Entry
     Entry::Nothing
 }
 
-// What was found, as a choice: 42 where it is nothing.
-fn choice_of(found: Entry) -> Choice
-    ensures { λ r. ⌜ choiceReply r ≡ orNothingInCommon (entryReply found) ⌝ }
-{
-    match found {
-        Entry::Version(version) => Choice::Version(version),
-        Entry::Nothing => Choice::Refused(Refusal::NOTHING_IN_COMMON),
-    }
-}
-
 // The choice from a list. Refusals, in order: 40 (over MAX_LIST entries), 41 (the table breaks its rule),
 // 42 (nothing of the table is in the list).
 pub fn choose_from(table: &[u32], list: &[u32]) -> Choice
@@ -82,4 +72,14 @@ pub fn choose_from_bytes(table: &[u32], bytes: &[u8]) -> Choice
         return Choice::Refused(Refusal::BAD_TABLE);
     }
     choice_of(prefer_in_bytes(table, bytes))
+}
+
+// What was found, as a choice: 42 where it is nothing.
+fn choice_of(found: Entry) -> Choice
+    ensures { λ r. ⌜ choiceReply r ≡ orNothingInCommon (entryReply found) ⌝ }
+{
+    match found {
+        Entry::Version(version) => Choice::Version(version),
+        Entry::Nothing => Choice::Refused(Refusal::NOTHING_IN_COMMON),
+    }
 }

@@ -23,32 +23,46 @@ use versions::pairs::are_pairs;
 use versions::table::contains;
 use versions::table::is_table;
 
-// A table in its array: places past its entries are 0.
-fn padded_table(table: &[u32]) -> [u32; MAX_TABLE]
-    requires { ⌜ length (now table) ≤ maxTable ⌝ }
-    ensures { λ r. ⌜ r ≡ padded maxTable (now (table .entry)) ⌝ }
+// Starts an attempt with a table, pairs, the Original Version and our two connection IDs. Refusals, in order:
+// 41 (the table breaks its rule), 43 (the pairs break theirs), 44 (the Original Version is not in the table),
+// 45 (a connection ID has over MAX_ID bytes). A refusal hands back the blank record, which is no attempt; else
+// the attempt is open and attempts the Original Version.
+pub fn start(
+    table: &[u32],
+    pairs: &[[u32; 2]],
+    original: u32,
+    destination: &[u8],
+    source: &[u8],
+) -> Started
+    ensures shown { λ r. ⌜ shownStart r ≡ startOf (inputOf (now (table .entry)) (now (pairs .entry)) original (now (destination .entry)) (now (source .entry))) ⌝ }
+    ensures opens { λ r. ⌜ (isAccepted (inputOf (now (table .entry)) (now (pairs .entry)) original (now (destination .entry)) (now (source .entry))) ≡ true → Reachable (r .attempt)) ⌝ }
 {
-    let mut places = [0u32; MAX_TABLE];
-    let mut i = 0;
-    while i < table.len() {
-        places[i] = table[i];
-        i += 1;
+    if !is_table(table) {
+        return refused(Refusal::BAD_TABLE);
     }
-    places
+    if !are_pairs(pairs) {
+        return refused(Refusal::BAD_PAIRS);
+    }
+    if !contains(table, original) {
+        return refused(Refusal::ORIGINAL_NOT_IN_TABLE);
+    }
+    if MAX_ID < destination.len() {
+        return refused(Refusal::CONNECTION_ID_TOO_LONG);
+    }
+    if MAX_ID < source.len() {
+        return refused(Refusal::CONNECTION_ID_TOO_LONG);
+    }
+    open(table, pairs, original, destination, source)
 }
 
-// A connection ID in its array: places past its bytes are 0.
-fn padded_id(id: &[u8]) -> [u8; MAX_ID]
-    requires { ⌜ length (now id) ≤ maxID ⌝ }
-    ensures { λ r. ⌜ r ≡ padded maxID (now (id .entry)) ⌝ }
+fn refused(refusal: Refusal) -> Started
+    ensures { λ r. ⌜ shownStart r ≡ refusedStart (refusal .0) ⌝ }
 {
-    let mut places = [0u8; MAX_ID];
-    let mut i = 0;
-    while i < id.len() {
-        places[i] = id[i];
-        i += 1;
+    let attempt = blank_attempt();
+    Started {
+        attempt,
+        answer: StartAnswer::Refused(refusal),
     }
-    places
 }
 
 // The record that a refused start hands back. It is no attempt.
@@ -68,16 +82,6 @@ fn blank_attempt() -> Attempt
         acted: false,
         heard: false,
         end: End::Closed(0),
-    }
-}
-
-fn refused(refusal: Refusal) -> Started
-    ensures { λ r. ⌜ shownStart r ≡ refusedStart (refusal .0) ⌝ }
-{
-    let attempt = blank_attempt();
-    Started {
-        attempt,
-        answer: StartAnswer::Refused(refusal),
     }
 }
 
@@ -116,34 +120,30 @@ fn open(
     }
 }
 
-// Starts an attempt with a table, pairs, the Original Version and our two connection IDs. Refusals, in order:
-// 41 (the table breaks its rule), 43 (the pairs break theirs), 44 (the Original Version is not in the table),
-// 45 (a connection ID has over MAX_ID bytes). A refusal hands back the blank record, which is no attempt; else
-// the attempt is open and attempts the Original Version.
-pub fn start(
-    table: &[u32],
-    pairs: &[[u32; 2]],
-    original: u32,
-    destination: &[u8],
-    source: &[u8],
-) -> Started
-    ensures shown { λ r. ⌜ shownStart r ≡ startOf (inputOf (now (table .entry)) (now (pairs .entry)) original (now (destination .entry)) (now (source .entry))) ⌝ }
-    ensures opens { λ r. ⌜ (isAccepted (inputOf (now (table .entry)) (now (pairs .entry)) original (now (destination .entry)) (now (source .entry))) ≡ true → Reachable (r .attempt)) ⌝ }
+// A table in its array: places past its entries are 0.
+fn padded_table(table: &[u32]) -> [u32; MAX_TABLE]
+    requires { ⌜ length (now table) ≤ maxTable ⌝ }
+    ensures { λ r. ⌜ r ≡ padded maxTable (now (table .entry)) ⌝ }
 {
-    if !is_table(table) {
-        return refused(Refusal::BAD_TABLE);
+    let mut places = [0u32; MAX_TABLE];
+    let mut i = 0;
+    while i < table.len() {
+        places[i] = table[i];
+        i += 1;
     }
-    if !are_pairs(pairs) {
-        return refused(Refusal::BAD_PAIRS);
+    places
+}
+
+// A connection ID in its array: places past its bytes are 0.
+fn padded_id(id: &[u8]) -> [u8; MAX_ID]
+    requires { ⌜ length (now id) ≤ maxID ⌝ }
+    ensures { λ r. ⌜ r ≡ padded maxID (now (id .entry)) ⌝ }
+{
+    let mut places = [0u8; MAX_ID];
+    let mut i = 0;
+    while i < id.len() {
+        places[i] = id[i];
+        i += 1;
     }
-    if !contains(table, original) {
-        return refused(Refusal::ORIGINAL_NOT_IN_TABLE);
-    }
-    if MAX_ID < destination.len() {
-        return refused(Refusal::CONNECTION_ID_TOO_LONG);
-    }
-    if MAX_ID < source.len() {
-        return refused(Refusal::CONNECTION_ID_TOO_LONG);
-    }
-    open(table, pairs, original, destination, source)
+    places
 }

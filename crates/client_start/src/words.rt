@@ -8,22 +8,18 @@ ghost use Rattle.attempt.specs.OwnList.{wordFor, rowsFor};
 ghost use Rattle.client_start.specs.Words.{marked, wordBits};
 use versions::MAX_TABLE;
 
-// The word with the bits set of the table entries that are this version.
-fn mark(table: &[u32], version: u32, word: u64) -> u64
-    requires { ⌜ length (now table) ≤ wordBits ⌝ }
-    ensures { λ r. ⌜ r ≡ marked (now (table .entry)) version word ⌝ }
+// The words of all table entries, in table order.
+pub(crate) fn rows_for(table: &[u32], pairs: &[[u32; 2]]) -> [u64; MAX_TABLE]
+    requires { ⌜ length (now table) ≤ maxTable ⌝ }
+    ensures { λ r. ⌜ r ≡ padded maxTable (rowsFor (now (table .entry)) (now (table .entry)) (now (pairs .entry))) ⌝ }
 {
-    let mut result: u64 = 0;
-    let mut j = table.len();
-    while 0 < j {
-        j -= 1;
-        if table[j] == version {
-            result = 2 * result + 1;
-        } else {
-            result = 2 * result + (word >> j) % 2;
-        }
+    let mut rows = [0u64; MAX_TABLE];
+    let mut i = 0;
+    while i < table.len() {
+        rows[i] = word_for(table, pairs, table[i]);
+        i += 1;
     }
-    result
+    rows
 }
 
 // The word of one attempted version: its own bit, and that of each version paired from it.
@@ -43,16 +39,20 @@ fn word_for(table: &[u32], pairs: &[[u32; 2]], attempted: u32) -> u64
     word
 }
 
-// The words of all table entries, in table order.
-pub(crate) fn rows_for(table: &[u32], pairs: &[[u32; 2]]) -> [u64; MAX_TABLE]
-    requires { ⌜ length (now table) ≤ maxTable ⌝ }
-    ensures { λ r. ⌜ r ≡ padded maxTable (rowsFor (now (table .entry)) (now (table .entry)) (now (pairs .entry))) ⌝ }
+// The word with the bits set of the table entries that are this version.
+fn mark(table: &[u32], version: u32, word: u64) -> u64
+    requires { ⌜ length (now table) ≤ wordBits ⌝ }
+    ensures { λ r. ⌜ r ≡ marked (now (table .entry)) version word ⌝ }
 {
-    let mut rows = [0u64; MAX_TABLE];
-    let mut i = 0;
-    while i < table.len() {
-        rows[i] = word_for(table, pairs, table[i]);
-        i += 1;
+    let mut result: u64 = 0;
+    let mut j = table.len();
+    while 0 < j {
+        j -= 1;
+        if table[j] == version {
+            result = 2 * result + 1;
+        } else {
+            result = 2 * result + (word >> j) % 2;
+        }
     }
-    rows
+    result
 }

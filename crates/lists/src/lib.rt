@@ -24,12 +24,6 @@ pub struct Span {
     pub end: usize,
 }
 
-fn wide(byte: u8) -> u32
-    ensures { λ r. ⌜ r ≡ byte ⌝ }
-{
-    byte as u32
-}
-
 // Four bytes as a number.
 pub fn big_endian(a: u8, b: u8, c: u8, d: u8) -> u32
     ensures { λ r. ⌜ r ≡ number a b c d ⌝ }
@@ -37,12 +31,10 @@ pub fn big_endian(a: u8, b: u8, c: u8, d: u8) -> u32
     wide(a) * 0x1000000 + (wide(b) * 0x10000 + (wide(c) * 0x100 + wide(d)))
 }
 
-// The number whose four bytes begin at a place.
-fn number_at(bytes: &[u8], at: usize) -> u32
-    requires { ⌜ at + versionBytes ≤ length (now bytes) ⌝ }
-    ensures { λ r. ⌜ r ≡ numberAt (now (bytes .entry)) at ⌝ }
+fn wide(byte: u8) -> u32
+    ensures { λ r. ⌜ r ≡ byte ⌝ }
 {
-    big_endian(bytes[at], bytes[at + 1], bytes[at + 2], bytes[at + 3])
+    byte as u32
 }
 
 // The entry at a place of a list on the wire, counted from 0. Entries are whole fours; 1 to 3 bytes left
@@ -72,17 +64,6 @@ pub fn contains_in_bytes(bytes: &[u8], version: u32) -> bool
     false
 }
 
-// Puts one version at a place of the buffer.
-fn put_at(buffer: &mut [u8], at: usize, version: u32)
-    requires { ⌜ at + versionBytes ≤ length (now buffer) ⌝ }
-    ensures { λ _. ⌜ now (buffer .exit) ≡ take at (now (buffer .entry)) ++ bytesOf version ++ drop (at + versionBytes) (now (buffer .entry)) ⌝ }
-{
-    buffer[at] = (version / 0x1000000 % 256) as u8;
-    buffer[at + 1] = (version / 0x10000 % 256) as u8;
-    buffer[at + 2] = (version / 0x100 % 256) as u8;
-    buffer[at + 3] = (version % 256) as u8;
-}
-
 // Puts a list at the front of the buffer and answers true; where there is no room it answers false and
 // leaves the buffer as found.
 pub fn put_list(versions: &[u32], buffer: &mut [u8]) -> bool
@@ -99,4 +80,23 @@ pub fn put_list(versions: &[u32], buffer: &mut [u8]) -> bool
         i += 1;
     }
     true
+}
+
+// Puts one version at a place of the buffer.
+fn put_at(buffer: &mut [u8], at: usize, version: u32)
+    requires { ⌜ at + versionBytes ≤ length (now buffer) ⌝ }
+    ensures { λ _. ⌜ now (buffer .exit) ≡ take at (now (buffer .entry)) ++ bytesOf version ++ drop (at + versionBytes) (now (buffer .entry)) ⌝ }
+{
+    buffer[at] = (version / 0x1000000 % 256) as u8;
+    buffer[at + 1] = (version / 0x10000 % 256) as u8;
+    buffer[at + 2] = (version / 0x100 % 256) as u8;
+    buffer[at + 3] = (version % 256) as u8;
+}
+
+// The number whose four bytes begin at a place.
+fn number_at(bytes: &[u8], at: usize) -> u32
+    requires { ⌜ at + versionBytes ≤ length (now bytes) ⌝ }
+    ensures { λ r. ⌜ r ≡ numberAt (now (bytes .entry)) at ⌝ }
+{
+    big_endian(bytes[at], bytes[at + 1], bytes[at + 2], bytes[at + 3])
 }

@@ -76,6 +76,26 @@ impl Refusal {
     pub const DOWNGRADED: Refusal = Refusal(75);
 }
 
+// The kind of call that gave a refusal. Only what was read from the peer can close a connection.
+pub enum Call {
+    // A reader, the server's choice, an event.
+    Reading,
+    // A writer.
+    Writing,
+}
+
+// The transport error code to close the connection with (RFC 9000 section 20.1, RFC 9368 section 10.2).
+pub enum Close {
+    Nothing,
+    With(u64),
+}
+
+// What a writer answers: a refusal, or how many bytes of the lent buffer it wrote.
+pub enum Written {
+    Refused(Refusal),
+    Count(usize),
+}
+
 // How many numbers document 01's table has.
 pub const COUNT: usize = 33;
 
@@ -120,18 +140,15 @@ pub fn all_numbers() -> [u8; COUNT]
     ]
 }
 
-// The kind of call that gave a refusal. Only what was read from the peer can close a connection.
-pub enum Call {
-    // A reader, the server's choice, an event.
-    Reading,
-    // A writer.
-    Writing,
-}
-
-// The transport error code to close the connection with (RFC 9000 section 20.1, RFC 9368 section 10.2).
-pub enum Close {
-    Nothing,
-    With(u64),
+// The close code of a refusal, for any number: document 01's table for what was read, nothing for a
+// writer and for a number that the table does not have. Total, and it refuses nothing.
+pub fn close_code(refusal: Refusal, call: Call) -> Close
+    ensures { λ r. ⌜ r ≡ closeOf (refusal .0) call ⌝ }
+{
+    match call {
+        Call::Reading => code_in_the_table(refusal.0),
+        Call::Writing => Close::Nothing,
+    }
 }
 
 // The close code in the row of a number; nothing for a number that the table does not have.
@@ -154,21 +171,4 @@ fn code_in_the_table(number: u8) -> Close
         return Close::With(0x11);
     }
     Close::Nothing
-}
-
-// The close code of a refusal, for any number: document 01's table for what was read, nothing for a
-// writer and for a number that the table does not have. Total, and it refuses nothing.
-pub fn close_code(refusal: Refusal, call: Call) -> Close
-    ensures { λ r. ⌜ r ≡ closeOf (refusal .0) call ⌝ }
-{
-    match call {
-        Call::Reading => code_in_the_table(refusal.0),
-        Call::Writing => Close::Nothing,
-    }
-}
-
-// What a writer answers: a refusal, or how many bytes of the lent buffer it wrote.
-pub enum Written {
-    Refused(Refusal),
-    Count(usize),
 }

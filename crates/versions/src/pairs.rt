@@ -4,21 +4,6 @@ ghost use Rattle.versions.specs.Pairs.{paired, pairKeepsRule, pairsKeepR
 use crate::MAX_PAIRS;
 use crate::table::is_usable;
 
-// Whether one pair keeps its rule: no member 0 or reserved, its members not equal.
-fn is_pair(pair: [u32; 2]) -> bool
-    ensures { λ r. ⌜ r ≡ pairKeepsRule pair ⌝ }
-{
-    let from = pair[0];
-    let to = pair[1];
-    if !is_usable(from) {
-        return false;
-    }
-    if !is_usable(to) {
-        return false;
-    }
-    from != to
-}
-
 // Whether a table of pairs keeps its rule: at most MAX_PAIRS, each pair of two usable versions that differ.
 pub fn are_pairs(pairs: &[[u32; 2]]) -> bool
     ensures { λ r. ⌜ r ≡ pairsKeepRule (now (pairs .entry)) ⌝ }
@@ -35,6 +20,21 @@ pub fn are_pairs(pairs: &[[u32; 2]]) -> bool
         i += 1;
     }
     true
+}
+
+// Whether one pair keeps its rule: no member 0 or reserved, its members not equal.
+fn is_pair(pair: [u32; 2]) -> bool
+    ensures { λ r. ⌜ r ≡ pairKeepsRule pair ⌝ }
+{
+    let from = pair[0];
+    let to = pair[1];
+    if !is_usable(from) {
+        return false;
+    }
+    if !is_usable(to) {
+        return false;
+    }
+    from != to
 }
 
 // Whether `to` is paired from `from`.
