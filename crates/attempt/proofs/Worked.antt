@@ -156,11 +156,17 @@ refusals =
 
 -- Each case computes to what document 01 says
 P1-to-P12 : map computed cases ≡ map expected cases
-unfolding computed expected ourDestination ourSource start packet outcome missing answers attempt three four cases closeOf codeIn table choose preferred paired pairKeepsRule eachPairKeepsRule pairsKeepRule elem entriesKeepRule tableKeepsRule reserved usable entries listBytes isReadableNegotiation padded ownOf run members wordOf wordFor rowsFor mayBeAnswered startOf opened blank stepOf onDatagram onProcessed onOutcome same
+unfolding computed expected ourDestination ourSource start packet outcome missing answers attempt three four cases
+    closeOf codeIn table choose preferred paired pairKeepsRule eachPairKeepsRule pairsKeepRule elem entriesKeepRule
+    tableKeepsRule reserved usable entries listBytes isReadableNegotiation padded ownOf run members wordOf wordFor
+    rowsFor mayBeAnswered startOf opened blank stepOf onDatagram onProcessed onOutcome same
 P1-to-P12 = refl
 
 mixed-answers : answers (startOf (start three [] 12) .attempt) mixed ≡ refusals
-unfolding mixed refusals computed expected ourDestination ourSource start packet outcome missing answers attempt three four cases closeOf codeIn table choose preferred paired pairKeepsRule eachPairKeepsRule pairsKeepRule elem entriesKeepRule tableKeepsRule reserved usable entries listBytes isReadableNegotiation padded ownOf run members wordOf wordFor rowsFor mayBeAnswered startOf opened blank stepOf onDatagram onProcessed onOutcome same
+unfolding mixed refusals computed expected ourDestination ourSource start packet outcome missing answers attempt three
+    four cases closeOf codeIn table choose preferred paired pairKeepsRule eachPairKeepsRule pairsKeepRule elem
+    entriesKeepRule tableKeepsRule reserved usable entries listBytes isReadableNegotiation padded ownOf run members
+    wordOf wordFor rowsFor mayBeAnswered startOf opened blank stepOf onDatagram onProcessed onOutcome same
 mixed-answers = refl
 
 -- Starts with several faults. "Each refusal .. names one cause": 41, 43, 44, 45, the lowest that applies
@@ -175,7 +181,8 @@ faulty =
     []
 
 starts-lowest-first : map (λ (x : Input). startOf x .reply) faulty ≡ map (refuse Reading) (41 ∷ 43 ∷ 44 ∷ 45 ∷ [])
-unfolding faulty ourDestination three closeOf codeIn table paired pairKeepsRule eachPairKeepsRule pairsKeepRule elem entriesKeepRule tableKeepsRule reserved usable startOf
+unfolding faulty ourDestination three closeOf codeIn table paired pairKeepsRule eachPairKeepsRule pairsKeepRule elem
+    entriesKeepRule tableKeepsRule reserved usable startOf
 starts-lowest-first = refl
 
 -- "Pairs are neither turned round nor chained."
@@ -189,12 +196,18 @@ own-lists-of-a-chain = refl
 -- Missing information: "one that never acted completes if the version in use is the attempted one, else 73"
 never-acted : map (λ (e : Handed). answers (startOf (start three [] 12) .attempt) (e ∷ [])) (missing 12 ∷ missing 1 ∷ [])
     ≡ (answered (completes 12) ∷ []) ∷ (refuse Reading 73 ∷ []) ∷ []
-unfolding ourDestination ourSource start missing answers three closeOf codeIn table eachPairKeepsRule pairsKeepRule elem entriesKeepRule tableKeepsRule reserved usable padded ownOf members wordOf wordFor rowsFor mayBeAnswered startOf opened stepOf onOutcome
+unfolding ourDestination ourSource start missing answers three closeOf codeIn table eachPairKeepsRule pairsKeepRule
+    elem entriesKeepRule tableKeepsRule reserved usable padded ownOf members wordOf wordFor rowsFor mayBeAnswered
+    startOf opened stepOf onOutcome
 never-acted = refl
 
 -- The premises of demand 3 and of its corollary can be met
 witness : CompletedAgainst (13 ∷ 14 ∷ []) (start three [] 12) mixed 14
-unfolding mixed actedWith firstOutcome computed expected ourDestination ourSource start packet outcome missing answers attempt three four cases closeOf codeIn table choose preferred paired pairKeepsRule eachPairKeepsRule pairsKeepRule elem entriesKeepRule tableKeepsRule reserved usable entries listBytes isReadableNegotiation padded ownOf run members wordOf wordFor rowsFor mayBeAnswered startOf opened blank stepOf onDatagram onProcessed onOutcome same
+unfolding mixed actedWith firstOutcome computed expected ourDestination ourSource start packet outcome missing answers
+    attempt three four cases closeOf codeIn table choose preferred paired pairKeepsRule eachPairKeepsRule
+    pairsKeepRule elem entriesKeepRule tableKeepsRule reserved usable entries listBytes isReadableNegotiation padded
+    ownOf run members wordOf wordFor rowsFor mayBeAnswered startOf opened blank stepOf onDatagram onProcessed
+    onOutcome same
 witness =
     record {
       accepted = refl;
