@@ -15,7 +15,6 @@ use lists::contains_in_bytes;
 use lists::put_list;
 use refusals::Refusal;
 use refusals::Written;
-use versions::table::contains;
 
 // The most bytes of Version Information: the Chosen Version and MAX_AVAILABLE Available Versions.
 pub const MAX_INFORMATION: usize = 1024;
@@ -104,7 +103,7 @@ pub fn write_information(
     if chosen == 0 {
         return Written::Refused(Refusal::CHOSEN_IS_ZERO);
     }
-    if contains(available, 0) {
+    if holds(available, 0) {
         return Written::Refused(Refusal::AVAILABLE_HOLDS_ZERO);
     }
     if written_lacks_chosen(sender, chosen, available) {
@@ -123,9 +122,25 @@ fn written_lacks_chosen(sender: Sender, chosen: u32, available: &[u32]) -> bool
     ensures { λ r. ⌜ r ≡ (isClient sender && not (elem chosen (now (available .entry)))) ⌝ }
 {
     match sender {
-        Sender::Client => !contains(available, chosen),
+        Sender::Client => !holds(available, chosen),
         Sender::Server => false,
     }
+}
+
+// Whether the version is in a list of at most MAX_AVAILABLE entries. It goes over all of them, with no early exit:
+// the compiler then compares several at a time.
+fn holds(list: &[u32], version: u32) -> bool
+    ensures { λ r. ⌜ r ≡ elem version (now (list .entry)) ⌝ }
+{
+    let mut found = false;
+    let mut i = 0;
+    while i < list.len() {
+        if list[i] == version {
+            found = true;
+        }
+        i += 1;
+    }
+    found
 }
 
 // Puts the Chosen Version and the Available Versions at the front of a buffer that has room for them.

@@ -31,18 +31,18 @@ returns-2 c =
     let few : length (now (c .before .before .before .before .args .available)) ≤ maxAvailable = omega arith in
     rw (le-ltb _ _ few, eq-eqb _ _ (c .if2 .taken)) (refl, refl)
 
-contains-requires : tie.Need-contains-requires
-contains-requires c κs = search needs
+holds-requires : tie.Need-holds-requires
+holds-requires c κs = search needs
 
 -- Neither 33 nor 34 applies
 after-34 :
-    (c : tie.After-contains) →
+    (c : tie.After-holds) →
     let args = c .before .before .before .before .before .args in
     let available = now (args .available) in
     let room = length (now (args .buffer)) in
     informationToWrite (args .sender) (args .chosen) available room ≡
     judged Writing
-    ((35 when c .contains .result) ∷
+    ((35 when c .holds .result) ∷
     (36 when isClient (args .sender) && not (elem (args .chosen) available)) ∷
     (37 when ltb room (informationLength available)) ∷
     [])
@@ -50,7 +50,7 @@ after-34 :
 unfolding informationToWrite
 after-34 c =
     let few : length (now (c .before .before .before .before .before .args .available)) ≤ maxAvailable = omega arith in
-    rw (le-ltb _ _ few, ne-eqb _ _ (c .before .if2 .left), ← c .contains .ensures)
+    rw (le-ltb _ _ few, ne-eqb _ _ (c .before .if2 .left), ← c .holds .ensures)
 
 returns-3 : tie.Need-returns-3
 returns-3 c = rw (after-34 (c .before), c .if3 .taken) (refl, refl)
@@ -105,7 +105,7 @@ write-information-spec =
     (tie.spec
     returns
     returns-2
-    contains-requires
+    holds-requires
     returns-3
     written-lacks-chosen-requires
     returns-4
