@@ -292,4 +292,4 @@ handle-spec 𝓤 H 𝓜 𝓖 𝓡 =
     (tables 𝓤 H 𝓜 𝓡 code.env .C) (tables 𝓤 H 𝓜 𝓡 code.env .Λ) #handle code.function (code.unfolded 𝓤 H 𝓜 𝓡)
     (handle-meets 𝓤 H (𝓖 .A) (givenOf 𝓤 H 𝓜 𝓖) (𝓜 .mem) (𝓡 .run) (tablesOf 𝓤 H 𝓜 (tables 𝓤 H 𝓜 𝓡 code.env))
     (cited 𝓤 H (StepC 𝓤 H (𝓖 .A) (𝓜 .mem) (𝓡 .run)) 𝓜 𝓡 code.env #step step-def.routine
-    code.calls-client·stepping·step (step-thm.met 𝓤 H 𝓜 𝓖 𝓡)))
+    code.calls-client-step·stepping·step (step-thm.met 𝓤 H 𝓜 𝓖 𝓡)))
