@@ -3,6 +3,7 @@ pub mod Demand3
 pub mod OwnLists
 pub mod Padded
 pub mod Phases
+pub mod PlainData
 pub mod Reaching
 pub mod Told
 pub mod Walks

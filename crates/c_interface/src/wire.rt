@@ -16,9 +16,9 @@ use information::read_information;
 use information::write_information;
 use invariants::Header;
 use invariants::reader::read_header;
+use lists::Span;
 use negotiation::write_version_negotiation;
 use refusals::Written;
-use lists::Span;
 
 // Reads a header. Refusals: 11, 12, 13, which leave all as found; else 0. `form` is 1 long, 2 short, 3 Version
 // Negotiation; `version` is a long form's, else 0; `places` are start and end of the destination ID, the source ID

@@ -3,8 +3,8 @@
 mod fields; // the fields of a long form
 pub mod reader; // the header reader
 
-use refusals::Refusal;
 use lists::Span;
+use refusals::Refusal;
 
 // The most bytes that a datagram has.
 pub const MAX_DATAGRAM: usize = 65535;

@@ -13,9 +13,9 @@ use crate::MAX_DATAGRAM;
 use crate::fields::destination_length;
 use crate::fields::source_length;
 use crate::fields::version_of;
-use refusals::Refusal;
 use lists::Span;
 use lists::VERSION_BYTES;
+use refusals::Refusal;
 
 // The long form of a datagram of 1 to MAX_DATAGRAM bytes, whatever the told length.
 fn read_long(datagram: &[u8]) -> Header

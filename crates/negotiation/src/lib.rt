@@ -16,10 +16,10 @@ ghost use Rattle.negotiation.specs.Packet.{packetLength, packetFor, offe
 ghost use Rattle.negotiation.specs.Parts.{Lengths, writerNumber, countOf, offerAnswer};
 use invariants::Header;
 use invariants::reader::read_header;
+use lists::VERSION_BYTES;
 use lists::put_list;
 use refusals::Refusal;
 use refusals::Written;
-use lists::VERSION_BYTES;
 use versions::table::contains;
 use versions::table::is_table;
 
