@@ -10,14 +10,16 @@ pub mod attempts; // the attempt: start, events, own list
 pub mod choices; // tables, pairs and choices
 pub mod wire; // headers, packets, Version Information
 
+use attempt::MAX_ID;
 use refusals::Call;
 use refusals::Close;
 use refusals::Refusal;
+use versions::MAX_TABLE;
 
 // The version of this interface; it changes with every function or record that changes.
 pub const INTERFACE_VERSION: u32 = 1;
 // The size of the record in bytes.
-pub const RECORD_SIZE: usize = 272;
+pub const RECORD_SIZE: usize = 12 * MAX_TABLE + 2 * MAX_ID + 40;
 
 #[no_mangle]
 pub extern "C" fn qv_interface_version() -> u32

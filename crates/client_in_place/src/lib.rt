@@ -12,7 +12,9 @@ use client_step::stepping::step;
 // are those of `step`.
 pub fn handle(attempt: &mut Attempt, event: Event, bytes: &[u8]) -> Answer
     requires { ⌜ Reachable (now attempt) ⌝ }
-    ensures { λ r. ⌜ (answerReply r ≡ stepOf (now (attempt .entry)) event (now (bytes .entry)) .reply) × ((now (attempt .exit) ≡ stepOf (now (attempt .entry)) event (now (bytes .entry)) .attempt) × Reachable (now (attempt .exit))) ⌝ }
+    ensures { λ r. ⌜ (answerReply r ≡ stepOf (now (attempt .entry)) event (now (bytes .entry)) .reply) ×
+        ((now (attempt .exit) ≡ stepOf (now (attempt .entry)) event (now (bytes .entry)) .attempt) ×
+        Reachable (now (attempt .exit))) ⌝ }
 {
     let stepped = step(*attempt, event, bytes);
     *attempt = stepped.attempt;
