@@ -16,7 +16,10 @@ use Rattle.lists.specs.Limits.{maxList}
 use Rattle.lists.specs.Wire.{versionBytes}
 use Rattle.lists.specs.declared.Span.{Span}
 use Rattle.lists.proofs.Entries.{length-entries}
-use Rattle.invariants.specs.Header.{Form, Form.long, Form.short, Form.versionNegotiation, isLong, versionOf, destinationLength, sourceStart, restStart, restOf, listed, isVersionNegotiation, longTruncated, shortTruncated, truncated, notWhole, headerRules, span, formOf, readHeader, headerReply, isReadableNegotiation}
+use Rattle.invariants.specs.Header.{Form, Form.long, Form.short, Form.versionNegotiation, isLong, versionOf}
+use Rattle.invariants.specs.Header.{destinationLength, sourceStart, restStart, restOf, listed, span}
+use Rattle.invariants.specs.Header.{longTruncated, shortTruncated, truncated, notWhole, headerRules}
+use Rattle.invariants.specs.Header.{formOf, readHeader, headerReply, isVersionNegotiation, isReadableNegotiation}
 use Rattle.invariants.specs.Limits.{maxDatagram}
 use Rattle.invariants.specs.declared.Header.{Header}
 use Rattle.invariants.specs.declared.Header.the-variants.{VersionNegotiation}
