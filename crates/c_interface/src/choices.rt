@@ -92,17 +92,6 @@ pub extern "C" fn qv_choose_from_bytes(table: &[u32], bytes: &[u8], version: &mu
     }
 }
 
-// Whether Version Information is given, by a number.
-fn presence_of(number: u32) -> Presence
-    requires { ⌜ number ≤ 1 ⌝ }
-    ensures { λ r. ⌜ some r ≡ presenceOf number ⌝ }
-{
-    if number == 0 {
-        return Presence::Missing;
-    }
-    Presence::Given
-}
-
 // The server's choice after a first flight in `version`; `presence` is 0 for missing information, 1 for given. Refusals:
 // 255 (another presence), 41, 43, 31 to 36, 51, which leave `decision` as found; else 0, and `decision` is the version
 // to use, or 0 to send a Version Negotiation packet.
@@ -137,4 +126,15 @@ pub extern "C" fn qv_server_choice(
             0
         }
     }
+}
+
+// Whether Version Information is given, by a number.
+fn presence_of(number: u32) -> Presence
+    requires { ⌜ number ≤ 1 ⌝ }
+    ensures { λ r. ⌜ some r ≡ presenceOf number ⌝ }
+{
+    if number == 0 {
+        return Presence::Missing;
+    }
+    Presence::Given
 }

@@ -28,16 +28,6 @@ pub extern "C" fn qv_interface_version() -> u32
     INTERFACE_VERSION
 }
 
-// A close code as a number: 0 where there is none.
-fn code_number(close: Close) -> u64
-    ensures { λ r. ⌜ r ≡ closeNumber close ⌝ }
-{
-    match close {
-        Close::Nothing => 0,
-        Close::With(code) => code,
-    }
-}
-
 // The close code of a refusal, 0 where there is none: `call` is 0 for what a reader, the server's choice or an
 // event refused, any other number for what a writer refused, which closes nothing.
 #[no_mangle]
@@ -48,4 +38,14 @@ pub extern "C" fn qv_close_code(refusal: u8, call: u32) -> u64
         return code_number(refusals::close_code(Refusal(refusal), Call::Reading));
     }
     code_number(refusals::close_code(Refusal(refusal), Call::Writing))
+}
+
+// A close code as a number: 0 where there is none.
+fn code_number(close: Close) -> u64
+    ensures { λ r. ⌜ r ≡ closeNumber close ⌝ }
+{
+    match close {
+        Close::Nothing => 0,
+        Close::With(code) => code,
+    }
 }

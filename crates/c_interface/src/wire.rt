@@ -113,17 +113,6 @@ pub extern "C" fn qv_write_version_negotiation(
     }
 }
 
-// The sender that a number names.
-fn sender_of(number: u32) -> Sender
-    requires { ⌜ number ≤ 1 ⌝ }
-    ensures { λ r. ⌜ some r ≡ senderOf number ⌝ }
-{
-    if number == 0 {
-        return Sender::Client;
-    }
-    Sender::Server
-}
-
 // Reads Version Information; `sender` is 0 for a client's, 1 for a server's. Refusals: 255 (another sender), 31 to 36,
 // which leave all as found; else 0, the Chosen Version, and where the Available Versions lie.
 #[no_mangle]
@@ -185,4 +174,15 @@ pub extern "C" fn qv_write_information(
             0
         }
     }
+}
+
+// The sender that a number names.
+fn sender_of(number: u32) -> Sender
+    requires { ⌜ number ≤ 1 ⌝ }
+    ensures { λ r. ⌜ some r ≡ senderOf number ⌝ }
+{
+    if number == 0 {
+        return Sender::Client;
+    }
+    Sender::Server
 }
