@@ -3,6 +3,7 @@ pub mod Keeps
 pub mod OwnLists
 pub mod Padded
 pub mod Phases
+pub mod PlainData
 pub mod Reaching
 pub mod Told
 pub mod Walks

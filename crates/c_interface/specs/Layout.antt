@@ -1,5 +1,5 @@
 -- What a host compares before its first call: the version of the interface, and the record's size and layout.
-use Prim.Native.Nat.{ℕ}
+use Prim.Native.Nat.{ℕ, _+_, _*_}
 use lib.ListN.{replicate}
 use Rattle.versions.specs.Limits.{maxTable}
 use Rattle.attempt.specs.Limits.{maxID}
@@ -8,9 +8,10 @@ use Rattle.c_record.specs.declared.Record.{Record}
 abbrev pub interfaceVersion : ℕ
 interfaceVersion = 1
 
--- The size of the record in bytes: no padding, which C and Rust check
+-- The size of the record in bytes: a row and a version for each place of the table, two connection IDs, ten numbers. No
+-- padding, which C and Rust check
 abbrev pub recordSize : ℕ
-recordSize = 272
+recordSize = 12 * maxTable + 2 * maxID + 40
 
 -- The values that `qv_known_record` fills in
 unfoldable pub knownRecord : Record

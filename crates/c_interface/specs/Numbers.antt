@@ -10,12 +10,12 @@ use Rattle.refusals.specs.declared.Call.the-variants.{Reading, Writing}
 use Rattle.refusals.specs.declared.Close.{Close}
 use Rattle.refusals.specs.declared.Close.the-variants.{Nothing, With}
 use Rattle.invariants.specs.Header.{Form, Form.long, Form.short, Form.versionNegotiation}
-use Rattle.information.specs.Information.{Found}
+use Rattle.information.specs.Information.{Found, readInformation, informationToWrite}
 use Rattle.information.specs.declared.Presence.{Presence}
 use Rattle.information.specs.declared.Presence.the-variants.{Missing, Given}
 use Rattle.information.specs.declared.Sender.{Sender}
 use Rattle.information.specs.declared.Sender.the-variants.{Client, Server}
-use Rattle.server.specs.FirstFlight.{Act, Act.negotiate, Act.use-version}
+use Rattle.server.specs.FirstFlight.{Act, Act.negotiate, Act.use-version, decide}
 use Rattle.c_record.specs.Numbers.{notValid, refusalOf}
 
 abbrev pub closeNumber : Close → ℕ
@@ -85,6 +85,18 @@ callOf n = cond (eqb n 0) Reading Writing
 abbrev pub forKnown : {K A : Type 0} → (K → Reply A) → Option K → Reply A
 forKnown answer none = refused notValid Nothing
 forKnown answer (some k) = answer k
+
+-- The calls whose sender or presence is a number
+abbrev pub readInformationOf : ℕ → List ℕ → Reply Found
+readInformationOf sender bytes = forKnown (λ s. readInformation s bytes) (senderOf sender)
+
+abbrev pub informationToWriteOf : ℕ → ℕ → List ℕ → ℕ → Reply (List ℕ)
+informationToWriteOf sender chosen available room =
+    forKnown (λ s. informationToWrite s chosen available room) (senderOf sender)
+
+abbrev pub decideOn : List ℕ → List ℕ → List (List ℕ) → ℕ → ℕ → List ℕ → Reply Act
+decideOn readable accepted pairs version presence information =
+    forKnown (λ p. decide readable accepted pairs version p information) (presenceOf presence)
 
 abbrev pub chosenIn : Found → ℕ
 chosenIn found = found .chosen

@@ -27,7 +27,8 @@ use versions::MAX_TABLE;
 // an outcome: 62, unchanged; 31 to 35 and 71 to 75, which end the attempt.
 #[no_mangle]
 pub extern "C" fn qv_event(held: &mut Record, kind: u32, value: u32, bytes: &[u8]) -> u32
-    ensures { λ r. ⌜ (r ≡ stepRecord (now (held .entry)) kind value (now (bytes .entry)) .refusal) × (now (held .exit) ≡ stepRecord (now (held .entry)) kind value (now (bytes .entry)) .left) ⌝ }
+    ensures { λ r. ⌜ (r ≡ stepRecord (now (held .entry)) kind value (now (bytes .entry)) .refusal) ×
+        (now (held .exit) ≡ stepRecord (now (held .entry)) kind value (now (bytes .entry)) .left) ⌝ }
 {
     let out = step_record(*held, kind, value, bytes);
     *held = out.attempt;

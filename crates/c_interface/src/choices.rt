@@ -7,9 +7,8 @@ ghost use Rattle.versions.specs.Pairs.{pairsKeepRule};
 ghost use Rattle.versions.specs.Table.{tableKeepsRule};
 ghost use Rattle.versions.specs.Version.{reserved};
 ghost use Rattle.lists.specs.Wire.{entries, entryAt};
-ghost use Rattle.server.specs.FirstFlight.{decide};
 ghost use Rattle.c_record.specs.Numbers.{flag};
-ghost use Rattle.c_interface.specs.Numbers.{returned, leaving, itself, isThere, valueOr, presenceOf, forKnown, actNumber};
+ghost use Rattle.c_interface.specs.Numbers.{returned, leaving, itself, isThere, valueOr, presenceOf, decideOn, actNumber};
 use c_record::NOT_VALID;
 use choosing::Choice;
 use choosing::choose_from;
@@ -93,17 +92,6 @@ pub extern "C" fn qv_choose_from_bytes(table: &[u32], bytes: &[u8], version: &mu
     }
 }
 
-// Whether Version Information is given, by a number.
-fn presence_of(number: u32) -> Presence
-    requires { ⌜ number ≤ 1 ⌝ }
-    ensures { λ r. ⌜ some r ≡ presenceOf number ⌝ }
-{
-    if number == 0 {
-        return Presence::Missing;
-    }
-    Presence::Given
-}
-
 // The server's choice after a first flight in `version`; `presence` is 0 for missing information, 1 for given. Refusals:
 // 255 (another presence), 41, 43, 31 to 36, 51, which leave `decision` as found; else 0, and `decision` is the version
 // to use, or 0 to send a Version Negotiation packet.
@@ -117,8 +105,11 @@ pub extern "C" fn qv_server_choice(
     information: &[u8],
     decision: &mut u32,
 ) -> u32
-    ensures answer { λ r. ⌜ r ≡ returned (forKnown (λ p. decide (now (readable .entry)) (now (accepted .entry)) (now (pairs .entry)) version p (now (information .entry))) (presenceOf presence)) ⌝ }
-    ensures left { λ _. ⌜ now (decision .exit) ≡ leaving actNumber (forKnown (λ p. decide (now (readable .entry)) (now (accepted .entry)) (now (pairs .entry)) version p (now (information .entry))) (presenceOf presence)) (now (decision .entry)) ⌝ }
+    ensures answer { λ r. ⌜ r ≡ returned
+        (decideOn (now (readable .entry)) (now (accepted .entry)) (now (pairs .entry)) version presence (now (information .entry))) ⌝ }
+    ensures left { λ _. ⌜ now (decision .exit) ≡ leaving actNumber
+        (decideOn (now (readable .entry)) (now (accepted .entry)) (now (pairs .entry)) version presence (now (information .entry)))
+        (now (decision .entry)) ⌝ }
 {
     if 1 < presence {
         return NOT_VALID;
@@ -135,4 +126,15 @@ pub extern "C" fn qv_server_choice(
             0
         }
     }
+}
+
+// Whether Version Information is given, by a number.
+fn presence_of(number: u32) -> Presence
+    requires { ⌜ number ≤ 1 ⌝ }
+    ensures { λ r. ⌜ some r ≡ presenceOf number ⌝ }
+{
+    if number == 0 {
+        return Presence::Missing;
+    }
+    Presence::Given
 }

@@ -10,30 +10,22 @@ pub mod attempts; // the attempt: start, events, own list
 pub mod choices; // tables, pairs and choices
 pub mod wire; // headers, packets, Version Information
 
+use attempt::MAX_ID;
 use refusals::Call;
 use refusals::Close;
 use refusals::Refusal;
+use versions::MAX_TABLE;
 
 // The version of this interface; it changes with every function or record that changes.
 pub const INTERFACE_VERSION: u32 = 1;
 // The size of the record in bytes.
-pub const RECORD_SIZE: usize = 272;
+pub const RECORD_SIZE: usize = 12 * MAX_TABLE + 2 * MAX_ID + 40;
 
 #[no_mangle]
 pub extern "C" fn qv_interface_version() -> u32
     ensures { λ r. ⌜ r ≡ interfaceVersion ⌝ }
 {
     INTERFACE_VERSION
-}
-
-// A close code as a number: 0 where there is none.
-fn code_number(close: Close) -> u64
-    ensures { λ r. ⌜ r ≡ closeNumber close ⌝ }
-{
-    match close {
-        Close::Nothing => 0,
-        Close::With(code) => code,
-    }
 }
 
 // The close code of a refusal, 0 where there is none: `call` is 0 for what a reader, the server's choice or an
@@ -46,4 +38,14 @@ pub extern "C" fn qv_close_code(refusal: u8, call: u32) -> u64
         return code_number(refusals::close_code(Refusal(refusal), Call::Reading));
     }
     code_number(refusals::close_code(Refusal(refusal), Call::Writing))
+}
+
+// A close code as a number: 0 where there is none.
+fn code_number(close: Close) -> u64
+    ensures { λ r. ⌜ r ≡ closeNumber close ⌝ }
+{
+    match close {
+        Close::Nothing => 0,
+        Close::With(code) => code,
+    }
 }

@@ -7,8 +7,8 @@ ghost use lib.ListN.{length};
 ghost use Rattle.refusals.specs.Written.{leaves};
 ghost use Rattle.invariants.specs.Header.{readHeader};
 ghost use Rattle.negotiation.specs.Packet.{negotiationPacket};
-ghost use Rattle.information.specs.Information.{readInformation, informationToWrite};
-ghost use Rattle.c_interface.specs.Numbers.{returned, leaving, formNumber, formVersion, leavingPlaces, senderOf, forKnown, chosenIn, startIn, endIn};
+ghost use Rattle.c_interface.specs.Numbers.{returned, leaving, formNumber, formVersion, leavingPlaces};
+ghost use Rattle.c_interface.specs.Numbers.{senderOf, readInformationOf, informationToWriteOf, chosenIn, startIn, endIn};
 use c_record::NOT_VALID;
 use information::Information;
 use information::Sender;
@@ -95,9 +95,14 @@ pub extern "C" fn qv_write_version_negotiation(
     buffer: &mut [u8],
     count: &mut usize,
 ) -> u32
-    ensures answer { λ r. ⌜ r ≡ returned (negotiationPacket (now (received .entry)) (now (offered .entry)) «unused_bits» (length (now (buffer .entry)))) ⌝ }
-    ensures left { λ _. ⌜ now (buffer .exit) ≡ leaves (negotiationPacket (now (received .entry)) (now (offered .entry)) «unused_bits» (length (now (buffer .entry)))) (now (buffer .entry)) ⌝ }
-    ensures counted { λ _. ⌜ now (count .exit) ≡ leaving length (negotiationPacket (now (received .entry)) (now (offered .entry)) «unused_bits» (length (now (buffer .entry)))) (now (count .entry)) ⌝ }
+    ensures answer { λ r. ⌜ r ≡ returned
+        (negotiationPacket (now (received .entry)) (now (offered .entry)) «unused_bits» (length (now (buffer .entry)))) ⌝ }
+    ensures left { λ _. ⌜ now (buffer .exit) ≡ leaves
+        (negotiationPacket (now (received .entry)) (now (offered .entry)) «unused_bits» (length (now (buffer .entry))))
+        (now (buffer .entry)) ⌝ }
+    ensures counted { λ _. ⌜ now (count .exit) ≡ leaving length
+        (negotiationPacket (now (received .entry)) (now (offered .entry)) «unused_bits» (length (now (buffer .entry))))
+        (now (count .entry)) ⌝ }
 {
     match write_version_negotiation(received, offered, unused_bits, buffer) {
         Written::Refused(refusal) => refusal.0 as u32,
@@ -106,17 +111,6 @@ pub extern "C" fn qv_write_version_negotiation(
             0
         }
     }
-}
-
-// The sender that a number names.
-fn sender_of(number: u32) -> Sender
-    requires { ⌜ number ≤ 1 ⌝ }
-    ensures { λ r. ⌜ some r ≡ senderOf number ⌝ }
-{
-    if number == 0 {
-        return Sender::Client;
-    }
-    Sender::Server
 }
 
 // Reads Version Information; `sender` is 0 for a client's, 1 for a server's. Refusals: 255 (another sender), 31 to 36,
@@ -129,10 +123,10 @@ pub extern "C" fn qv_read_information(
     start: &mut usize,
     end: &mut usize,
 ) -> u32
-    ensures answer { λ r. ⌜ r ≡ returned (forKnown (λ s. readInformation s (now (bytes .entry))) (senderOf sender)) ⌝ }
-    ensures chosen { λ _. ⌜ now (chosen .exit) ≡ leaving chosenIn (forKnown (λ s. readInformation s (now (bytes .entry))) (senderOf sender)) (now (chosen .entry)) ⌝ }
-    ensures start { λ _. ⌜ now (start .exit) ≡ leaving startIn (forKnown (λ s. readInformation s (now (bytes .entry))) (senderOf sender)) (now (start .entry)) ⌝ }
-    ensures end { λ _. ⌜ now (end .exit) ≡ leaving endIn (forKnown (λ s. readInformation s (now (bytes .entry))) (senderOf sender)) (now (end .entry)) ⌝ }
+    ensures answer { λ r. ⌜ r ≡ returned (readInformationOf sender (now (bytes .entry))) ⌝ }
+    ensures chosen { λ _. ⌜ now (chosen .exit) ≡ leaving chosenIn (readInformationOf sender (now (bytes .entry))) (now (chosen .entry)) ⌝ }
+    ensures start { λ _. ⌜ now (start .exit) ≡ leaving startIn (readInformationOf sender (now (bytes .entry))) (now (start .entry)) ⌝ }
+    ensures end { λ _. ⌜ now (end .exit) ≡ leaving endIn (readInformationOf sender (now (bytes .entry))) (now (end .entry)) ⌝ }
 {
     if 1 < sender {
         return NOT_VALID;
@@ -161,9 +155,14 @@ pub extern "C" fn qv_write_information(
     buffer: &mut [u8],
     count: &mut usize,
 ) -> u32
-    ensures answer { λ r. ⌜ r ≡ returned (forKnown (λ s. informationToWrite s chosen (now (available .entry)) (length (now (buffer .entry)))) (senderOf sender)) ⌝ }
-    ensures left { λ _. ⌜ now (buffer .exit) ≡ leaves (forKnown (λ s. informationToWrite s chosen (now (available .entry)) (length (now (buffer .entry)))) (senderOf sender)) (now (buffer .entry)) ⌝ }
-    ensures counted { λ _. ⌜ now (count .exit) ≡ leaving length (forKnown (λ s. informationToWrite s chosen (now (available .entry)) (length (now (buffer .entry)))) (senderOf sender)) (now (count .entry)) ⌝ }
+    ensures answer { λ r. ⌜ r ≡ returned
+        (informationToWriteOf sender chosen (now (available .entry)) (length (now (buffer .entry)))) ⌝ }
+    ensures left { λ _. ⌜ now (buffer .exit) ≡ leaves
+        (informationToWriteOf sender chosen (now (available .entry)) (length (now (buffer .entry))))
+        (now (buffer .entry)) ⌝ }
+    ensures counted { λ _. ⌜ now (count .exit) ≡ leaving length
+        (informationToWriteOf sender chosen (now (available .entry)) (length (now (buffer .entry))))
+        (now (count .entry)) ⌝ }
 {
     if 1 < sender {
         return NOT_VALID;
@@ -175,4 +174,15 @@ pub extern "C" fn qv_write_information(
             0
         }
     }
+}
+
+// The sender that a number names.
+fn sender_of(number: u32) -> Sender
+    requires { ⌜ number ≤ 1 ⌝ }
+    ensures { λ r. ⌜ some r ≡ senderOf number ⌝ }
+{
+    if number == 0 {
+        return Sender::Client;
+    }
+    Sender::Server
 }

@@ -1,30 +1,40 @@
--- Demand 3 for a lent record: a list of events leaves there what the steps by value hand back.
+-- Demand 3 for a lent record: what lies there after a list of events is what the steps by value hand back.
 use Prim.Native.Nat.{ℕ}
 use mathlib.Core.Bool.{true}
 use mathlib.Core.List.{List, [], _∷_}
 use mathlib.Core.Logic.{_↔_}
 use mathlib.Core.Option.{Option.some}
-use mathlib.Core.Path.{_≡_, refl, sym, subst}
+use mathlib.Core.Path.{_≡_, refl, sym, subst, ap, _∙_}
 use Rattle.attempt.specs.Attempt.{isCompleted}
 use Rattle.attempt.specs.Demand.{Good, Handshake, actedWith, firstOutcome}
 use Rattle.attempt.specs.Events.{Handed, run}
 use Rattle.attempt.specs.Start.{Input, isAccepted, startOf}
+use Rattle.attempt.specs.Step.{stepOf}
 use Rattle.attempt.specs.declared.Attempt.{Attempt}
 use Rattle.attempt.proofs.Demand3.{demand-3}
-use Rattle.client_in_place.specs.Events.{leaves, leftAfter}
+use Rattle.client_in_place.specs.Events.{LeftByAll}
 
-pub in-place-run : (a : Attempt) (events : List Handed) → leftAfter a events ≡ run a events
-unfolding leftAfter run
-in-place-run a [] = refl
-in-place-run a (e ∷ es) = in-place-run (leaves a (e .event) (e .bytes)) es
+pub in-place-run : (a : Attempt) (events : List Handed) (left : Attempt) → LeftByAll a events left → left ≡ run a events
+unfolding LeftByAll run
+in-place-run a [] left e = e
+in-place-run a (e ∷ es) left (next, one, all) = in-place-run next es left all ∙ ap (λ (b : Attempt). run b es) one
 
-pub demand-3-in-place : (x : Input) (events : List Handed) (attempted : ℕ) →
+-- Every list of events leaves such a record
+pub run-in-place : (a : Attempt) (events : List Handed) → LeftByAll a events (run a events)
+unfolding LeftByAll run
+run-in-place a [] = refl
+run-in-place a (e ∷ es) =
+    let next : Attempt = stepOf a (e .event) (e .bytes) .attempt in
+    (next, refl, run-in-place next es)
+
+pub demand-3-in-place : (x : Input) (events : List Handed) (attempted : ℕ) (left : Attempt) →
     isAccepted x ≡ true →  -- for every start that isn't refused
     actedWith x events ≡ some attempted →  -- a client that acted on a Version Negotiation packet
-    (isCompleted (leftAfter (startOf x .attempt) events .end) ≡ true) ↔  -- has completed exactly when
+    LeftByAll (startOf x .attempt) events left →  -- by the record that lies there
+    (isCompleted (left .end) ≡ true) ↔  -- has completed exactly when
     ((h : Handshake) × (firstOutcome events ≡ some h) ×  -- it was handed an outcome
     Good x attempted h)  -- and the first one was good
-demand-3-in-place x events v accepted acted =
+demand-3-in-place x events v left accepted acted all =
     subst
     (λ (a : Attempt). (isCompleted (a .end) ≡ true) ↔ ((h : Handshake) × (firstOutcome events ≡ some h) × Good x v h))
-    (sym (in-place-run (startOf x .attempt) events)) (demand-3 x events v accepted acted)
+    (sym (in-place-run (startOf x .attempt) events left all)) (demand-3 x events v accepted acted)

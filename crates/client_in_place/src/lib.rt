@@ -5,14 +5,16 @@ ghost use Rattle.attempt.specs.Step.{answerReply, stepOf};
 use attempt::Answer;
 use attempt::Attempt;
 use attempt::Event;
-use client_step::stepping::step;
+use client_step::step;
 
 // One event on a lent record, which a start handed back and events alone changed since. `bytes` is the datagram, or
 // the Version Information that is given; else it is not read. The answer, its refusals and what each of them leaves
 // are those of `step`.
 pub fn handle(attempt: &mut Attempt, event: Event, bytes: &[u8]) -> Answer
     requires { ⌜ Reachable (now attempt) ⌝ }
-    ensures { λ r. ⌜ (answerReply r ≡ stepOf (now (attempt .entry)) event (now (bytes .entry)) .reply) × ((now (attempt .exit) ≡ stepOf (now (attempt .entry)) event (now (bytes .entry)) .attempt) × Reachable (now (attempt .exit))) ⌝ }
+    ensures { λ r. ⌜ (answerReply r ≡ stepOf (now (attempt .entry)) event (now (bytes .entry)) .reply) ×
+        ((now (attempt .exit) ≡ stepOf (now (attempt .entry)) event (now (bytes .entry)) .attempt) ×
+        Reachable (now (attempt .exit))) ⌝ }
 {
     let stepped = step(*attempt, event, bytes);
     *attempt = stepped.attempt;

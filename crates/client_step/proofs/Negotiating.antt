@@ -13,7 +13,7 @@ use Rattle.versions.proofs.Lists.{part-rest}
 use Rattle.invariants.specs.Header.{isReadableNegotiation, destinationID, sourceID, restOf, listed}
 use Rattle.invariants.specs.Header.{destinationLength, sourceLength, sourceStart, restStart}
 use Rattle.attempt.specs.Attempt.{tableOf, destinationOf, sourceOf, put}
-use Rattle.client_step.specs.Parts.{Parts}
+use Rattle.invariants.specs.Parts.{Parts}
 use Rattle.attempt.specs.Step.{unchanged, closed, after, Effect.acts, isLate, otherConnection, onDatagram}
 use Rattle.attempt.specs.declared.Attempt.{Attempt}
 

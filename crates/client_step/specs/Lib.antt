@@ -1,3 +1,2 @@
 pub mod Judgements
-pub mod Parts
 pub mod Verdicts

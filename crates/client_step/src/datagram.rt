@@ -3,7 +3,7 @@ ghost use mathlib.Core.Bool.{true};
 ghost use mathlib.Core.Path.{_≡_};
 ghost use Rattle.attempt.specs.Attempt.{destinationOf, sourceOf};
 ghost use Rattle.attempt.specs.Step.{isLate, same, otherConnection, onDatagram, countsFit};
-ghost use Rattle.client_step.specs.Parts.{Parts};
+ghost use Rattle.invariants.specs.Parts.{Parts};
 ghost use Rattle.client_step.specs.Verdicts.{applied};
 use crate::Verdict;
 use attempt::Attempt;

@@ -13,7 +13,8 @@ use Rattle.refusals.specs.declared.Call.{Call}
 use Rattle.refusals.specs.declared.Call.the-variants.{Reading, Writing}
 use Rattle.versions.specs.Table.{elem}
 use Rattle.lists.specs.Wire.{versionBytes}
-use Rattle.information.specs.Information.{Found, isClient, chosenOf, availableOf, formRules, senderRules, foundIn, readInformation, informationBytes, informationLength, writeRules, informationToWrite}
+use Rattle.information.specs.Information.{Found, isClient, chosenOf, availableOf, formRules, senderRules, foundIn}
+use Rattle.information.specs.Information.{readInformation, informationBytes, informationLength, writeRules, informationToWrite}
 use Rattle.information.specs.Limits.{maxAvailable, maxInformation}
 use Rattle.information.specs.declared.Sender.{Sender}
 

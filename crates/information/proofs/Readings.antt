@@ -25,7 +25,8 @@ module _ (sender : Sender) (bytes : List ℕ) where
   readRules = formRules bytes ++ senderRules sender (chosenOf bytes) (availableOf bytes)
 
   -- what the reader refuses, a list of rules that begins with the reader's refuses
-  pub read-refused : {B : Type 0} (refusal : ℕ → B) (other : B) (n : ℕ) → refuse Reading n ≡ readInformation sender bytes → refusal n ≡ lowest refusal readRules other
+  pub read-refused : {B : Type 0} (refusal : ℕ → B) (other : B) (n : ℕ) →
+      refuse Reading n ≡ readInformation sender bytes → refusal n ≡ lowest refusal readRules other
   unfolding readInformation
   read-refused refusal other n e = lowest-number Reading (foundIn bytes) n refusal other readRules e
 

@@ -117,16 +117,6 @@ pub fn write_information(
     Written::Count(count)
 }
 
-// Whether the sender is a client and the Chosen Version is not among the Available Versions.
-fn written_lacks_chosen(sender: Sender, chosen: u32, available: &[u32]) -> bool
-    ensures { λ r. ⌜ r ≡ (isClient sender && not (elem chosen (now (available .entry)))) ⌝ }
-{
-    match sender {
-        Sender::Client => !holds(available, chosen),
-        Sender::Server => false,
-    }
-}
-
 // Whether the version is in a list of at most MAX_AVAILABLE entries. It goes over all of them, with no early exit:
 // the compiler then compares several at a time.
 fn holds(list: &[u32], version: u32) -> bool
@@ -141,6 +131,16 @@ fn holds(list: &[u32], version: u32) -> bool
         i += 1;
     }
     found
+}
+
+// Whether the sender is a client and the Chosen Version is not among the Available Versions.
+fn written_lacks_chosen(sender: Sender, chosen: u32, available: &[u32]) -> bool
+    ensures { λ r. ⌜ r ≡ (isClient sender && not (elem chosen (now (available .entry)))) ⌝ }
+{
+    match sender {
+        Sender::Client => !holds(available, chosen),
+        Sender::Server => false,
+    }
 }
 
 // Puts the Chosen Version and the Available Versions at the front of a buffer that has room for them.

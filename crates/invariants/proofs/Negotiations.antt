@@ -16,8 +16,12 @@ use Rattle.lists.specs.Limits.{maxList}
 use Rattle.lists.specs.Wire.{versionBytes}
 use Rattle.lists.specs.declared.Span.{Span}
 use Rattle.lists.proofs.Entries.{length-entries}
-use Rattle.invariants.specs.Header.{Form, Form.long, Form.short, Form.versionNegotiation, isLong, versionOf, destinationLength, sourceStart, restStart, restOf, listed, isVersionNegotiation, longTruncated, shortTruncated, truncated, notWhole, headerRules, span, formOf, readHeader, headerReply, isReadableNegotiation}
+use Rattle.invariants.specs.Header.{Form, Form.long, Form.short, Form.versionNegotiation, isLong, versionOf}
+use Rattle.invariants.specs.Header.{destinationLength, sourceStart, restStart, restOf, listed, span}
+use Rattle.invariants.specs.Header.{longTruncated, shortTruncated, truncated, notWhole, headerRules}
+use Rattle.invariants.specs.Header.{formOf, readHeader, headerReply, isVersionNegotiation, isReadableNegotiation}
 use Rattle.invariants.specs.Limits.{maxDatagram}
+use Rattle.invariants.specs.Parts.{Parts}
 use Rattle.invariants.specs.declared.Header.{Header}
 use Rattle.invariants.specs.declared.Header.the-variants.{VersionNegotiation}
 
@@ -115,23 +119,21 @@ readable-known d e =
       count = rw (length-entries (restOf d)) (omega (arith, bounded));
     }
 
--- What is known where the reader answered a Version Negotiation packet
-pub record Answered (d : List ℕ) (destination source list : Span) : Type 0 where
-  pub readable : isReadableNegotiation d ≡ true
-  pub known : Readable d
-  pub destination-is : destination ≡ span 6 (6 + destinationLength d)
-  pub source-is : source ≡ span (sourceStart d) (restStart d)
-  pub list-is : list ≡ span (restStart d) (length d)
-
-pub answered-known : (d : List ℕ) (D S L : Span) → readHeader d 0 ≡ answered (versionNegotiation D S L)
-    → Answered d D S L
+-- Where the parts lie, where the reader answered a Version Negotiation packet
+pub answered-known : (d : List ℕ) (D S L : Span) → readHeader d 0 ≡ answered (versionNegotiation D S L) → Parts d D S L
 answered-known d D S L e =
     let readable : isReadableNegotiation d ≡ true = readable-is-read d ∙ ap negotiationIn e in
     let known = readable-known d readable in
     let same = sym e ∙ known .reads 0 in
-    record { readable = readable; known = known; destination-is = cc same; source-is = cc same; list-is = cc same }
+    record {
+      readable = readable;
+      within = known .within;
+      destination-is = cc same;
+      source-is = cc same;
+      list-is = cc same;
+    }
 
 -- The same for an answer of `read_header`
-pub answered-by-reply : (d : List ℕ) (r : Header) (D S L : Span) → headerReply r ≡ readHeader d 0 → r ≡ VersionNegotiation D S L
-    → Answered d D S L
+pub answered-by-reply : (d : List ℕ) (r : Header) (D S L : Span) → headerReply r ≡ readHeader d 0 →
+    r ≡ VersionNegotiation D S L → Parts d D S L
 answered-by-reply d r D S L e is = answered-known d D S L (sym e ∙ ap headerReply is)

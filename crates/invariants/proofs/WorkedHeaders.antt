@@ -8,7 +8,8 @@ use lib.ListN.{length, replicate, length-replicate, length-drop}
 use Rattle.refusals.specs.Reply.{Reply.answered, refuse}
 use Rattle.refusals.specs.declared.Call.the-variants.{Reading}
 use Rattle.lists.specs.Wire.{entries}
-use Rattle.invariants.specs.Header.{Form.long, Form.short, Form.versionNegotiation, span, isLong, versionOf, destinationLength, sourceLength, destinationID, sourceID, listed, readHeader}
+use Rattle.invariants.specs.Header.{Form.long, Form.short, Form.versionNegotiation, span, isLong, versionOf}
+use Rattle.invariants.specs.Header.{destinationLength, sourceLength, destinationID, sourceID, listed, readHeader}
 use Rattle.invariants.specs.Limits.{maxDatagram}
 use Rattle.invariants.proofs.Headers.{reads-over, reads-empty}
 

@@ -5,13 +5,6 @@ ghost use lib.ListN.{getD};
 ghost use Rattle.invariants.specs.Header.{versionOf, destinationLength, sourceLength};
 use lists::big_endian;
 
-// The byte at a place, 0 past the end.
-pub(crate) fn byte_at(datagram: &[u8], at: usize) -> u8
-    ensures { λ r. ⌜ r ≡ getD (now (datagram .entry)) at 0 ⌝ }
-{
-    if at < datagram.len() { datagram[at] } else { 0 }
-}
-
 // The version of a long form.
 pub(crate) fn version_of(datagram: &[u8]) -> u32
     ensures { λ r. ⌜ r ≡ versionOf (now (datagram .entry)) ⌝ }
@@ -39,4 +32,11 @@ pub(crate) fn source_length(datagram: &[u8]) -> usize
 {
     let destination = destination_length(datagram);
     byte_at(datagram, 6 + destination) as usize
+}
+
+// The byte at a place, 0 past the end.
+pub(crate) fn byte_at(datagram: &[u8], at: usize) -> u8
+    ensures { λ r. ⌜ r ≡ getD (now (datagram .entry)) at 0 ⌝ }
+{
+    if at < datagram.len() { datagram[at] } else { 0 }
 }

@@ -17,6 +17,53 @@ use lists::Span;
 use lists::VERSION_BYTES;
 use refusals::Refusal;
 
+// Reads a datagram's header. Refusals, in order: 11 (over MAX_DATAGRAM bytes), 12 (empty, a field runs past
+// the end, or a short form's told length is over MAX_CONNECTION_ID), 13 (a Version Negotiation list is
+// empty, or bytes are left over). Else the form, with the version of a long form and where each connection
+// ID and the rest lie. `told` is the length of a short form's destination connection ID; a long form
+// ignores it.
+pub fn read_header(datagram: &[u8], told: usize) -> Header
+    ensures { λ r. ⌜ headerReply r ≡ readHeader (now (datagram .entry)) told ⌝ }
+{
+    if MAX_DATAGRAM < datagram.len() {
+        return Header::Refused(Refusal::DATAGRAM_TOO_LONG);
+    }
+    if datagram.len() == 0 {
+        return Header::Refused(Refusal::TRUNCATED);
+    }
+    if datagram[0] < 128 {
+        read_short(datagram, told)
+    } else {
+        read_long(datagram)
+    }
+}
+
+// The short form of a datagram of 1 to MAX_DATAGRAM bytes.
+fn read_short(datagram: &[u8], told: usize) -> Header
+    requires { ⌜ 0 < length (now datagram) ⌝ }
+    requires { ⌜ length (now datagram) ≤ maxDatagram ⌝ }
+    requires { ⌜ isLong (now datagram) ≡ false ⌝ }
+    ensures { λ r. ⌜ headerReply r ≡ readHeader (now (datagram .entry)) told ⌝ }
+{
+    if MAX_CONNECTION_ID < told {
+        return Header::Refused(Refusal::TRUNCATED);
+    }
+    let destination_end = 1 + told;
+    if datagram.len() < destination_end {
+        return Header::Refused(Refusal::TRUNCATED);
+    }
+    Header::Short {
+        destination: Span {
+            start: 1,
+            end: destination_end,
+        },
+        rest: Span {
+            start: destination_end,
+            end: datagram.len(),
+        },
+    }
+}
+
 // The long form of a datagram of 1 to MAX_DATAGRAM bytes, whatever the told length.
 fn read_long(datagram: &[u8]) -> Header
     requires { ⌜ 0 < length (now datagram) ⌝ }
@@ -71,51 +118,4 @@ fn not_whole(count: usize) -> bool
         return true;
     }
     count % VERSION_BYTES != 0
-}
-
-// The short form of a datagram of 1 to MAX_DATAGRAM bytes.
-fn read_short(datagram: &[u8], told: usize) -> Header
-    requires { ⌜ 0 < length (now datagram) ⌝ }
-    requires { ⌜ length (now datagram) ≤ maxDatagram ⌝ }
-    requires { ⌜ isLong (now datagram) ≡ false ⌝ }
-    ensures { λ r. ⌜ headerReply r ≡ readHeader (now (datagram .entry)) told ⌝ }
-{
-    if MAX_CONNECTION_ID < told {
-        return Header::Refused(Refusal::TRUNCATED);
-    }
-    let destination_end = 1 + told;
-    if datagram.len() < destination_end {
-        return Header::Refused(Refusal::TRUNCATED);
-    }
-    Header::Short {
-        destination: Span {
-            start: 1,
-            end: destination_end,
-        },
-        rest: Span {
-            start: destination_end,
-            end: datagram.len(),
-        },
-    }
-}
-
-// Reads a datagram's header. Refusals, in order: 11 (over MAX_DATAGRAM bytes), 12 (empty, a field runs past
-// the end, or a short form's told length is over MAX_CONNECTION_ID), 13 (a Version Negotiation list is
-// empty, or bytes are left over). Else the form, with the version of a long form and where each connection
-// ID and the rest lie. `told` is the length of a short form's destination connection ID; a long form
-// ignores it.
-pub fn read_header(datagram: &[u8], told: usize) -> Header
-    ensures { λ r. ⌜ headerReply r ≡ readHeader (now (datagram .entry)) told ⌝ }
-{
-    if MAX_DATAGRAM < datagram.len() {
-        return Header::Refused(Refusal::DATAGRAM_TOO_LONG);
-    }
-    if datagram.len() == 0 {
-        return Header::Refused(Refusal::TRUNCATED);
-    }
-    if datagram[0] < 128 {
-        read_short(datagram, told)
-    } else {
-        read_long(datagram)
-    }
 }

@@ -20,7 +20,8 @@ use Rattle.lists.specs.Wire.{entries, listBytes, versionBytes}
 use Rattle.lists.specs.declared.Span.{Span}
 use Rattle.versions.proofs.Lists.{part-rest, table-counts}
 use Rattle.lists.proofs.Entries.{allBelow, allBelow-head, entries-listBytes, length-listBytes}
-use Rattle.invariants.specs.Header.{Form.versionNegotiation, span, isLong, versionOf, destinationLength, sourceLength, destinationID, sourceID, sourceStart, restStart, restOf, listed, longTruncated, notWhole, readHeader}
+use Rattle.invariants.specs.Header.{Form.versionNegotiation, span, isLong, versionOf, destinationLength, sourceLength}
+use Rattle.invariants.specs.Header.{destinationID, sourceID, sourceStart, restStart, restOf, listed, longTruncated, notWhole, readHeader}
 use Rattle.invariants.specs.Limits.{maxConnectionID, maxDatagram}
 use Rattle.negotiation.specs.Limits.{maxUnusedBits}
 use Rattle.negotiation.specs.Packet.{packetLength, packetFor, offerRules, packetRules, negotiationPacket}

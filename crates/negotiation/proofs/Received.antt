@@ -13,7 +13,9 @@ use Rattle.refusals.specs.Rule.{Rule, Rule._when_, judged}
 use Rattle.refusals.specs.declared.Call.the-variants.{Reading, Writing}
 use Rattle.refusals.proofs.Rules.{both-true, answered-clear, answered-injective, lowest-clear}
 use Rattle.lists.specs.declared.Span.{Span}
-use Rattle.invariants.specs.Header.{Form, Form.long, Form.short, Form.versionNegotiation, isLong, versionOf, destinationLength, sourceLength, sourceStart, restStart, restOf, longTruncated, truncated, notWhole, headerRules, span, formOf, readHeader, headerReply}
+use Rattle.invariants.specs.Header.{Form, Form.long, Form.short, Form.versionNegotiation, isLong, versionOf}
+use Rattle.invariants.specs.Header.{destinationLength, sourceLength, sourceStart, restStart, restOf, span}
+use Rattle.invariants.specs.Header.{longTruncated, truncated, notWhole, headerRules, formOf, readHeader, headerReply}
 use Rattle.invariants.specs.Limits.{maxConnectionID, maxDatagram}
 use Rattle.invariants.specs.declared.Header.{Header}
 use Rattle.invariants.specs.declared.Header.the-variants.{Long}

@@ -40,8 +40,11 @@ pub fn write_version_negotiation(
     unused_bits: u8,
     buffer: &mut [u8],
 ) -> Written
-    ensures answer { λ r. ⌜ writtenReply r ≡ counted (negotiationPacket (now (received .entry)) (now (offered .entry)) «unused_bits» (length (now (buffer .entry)))) ⌝ }
-    ensures left { λ _. ⌜ now (buffer .exit) ≡ leaves (negotiationPacket (now (received .entry)) (now (offered .entry)) «unused_bits» (length (now (buffer .entry)))) (now (buffer .entry)) ⌝ }
+    ensures answer { λ r. ⌜ writtenReply r ≡ counted
+        (negotiationPacket (now (received .entry)) (now (offered .entry)) «unused_bits» (length (now (buffer .entry)))) ⌝ }
+    ensures left { λ _. ⌜ now (buffer .exit) ≡ leaves
+        (negotiationPacket (now (received .entry)) (now (offered .entry)) «unused_bits» (length (now (buffer .entry))))
+        (now (buffer .entry)) ⌝ }
 {
     // Told length 0: a short form is a 12 only where it is empty.
     match read_header(received, 0) {
@@ -95,8 +98,11 @@ fn write_long(
 ) -> Written
     requires version { ⌜ version ≡ versionOf (now received) ⌝ }
     requires lengths { ⌜ Lengths (now received) destination source ⌝ }
-    ensures answer { λ r. ⌜ writtenReply r ≡ counted (offerAnswer (now (received .entry)) (now (offered .entry)) «unused_bits» (length (now (buffer .entry)))) ⌝ }
-    ensures left { λ _. ⌜ now (buffer .exit) ≡ leaves (offerAnswer (now (received .entry)) (now (offered .entry)) «unused_bits» (length (now (buffer .entry)))) (now (buffer .entry)) ⌝ }
+    ensures answer { λ r. ⌜ writtenReply r ≡ counted
+        (offerAnswer (now (received .entry)) (now (offered .entry)) «unused_bits» (length (now (buffer .entry)))) ⌝ }
+    ensures left { λ _. ⌜ now (buffer .exit) ≡ leaves
+        (offerAnswer (now (received .entry)) (now (offered .entry)) «unused_bits» (length (now (buffer .entry))))
+        (now (buffer .entry)) ⌝ }
 {
     let ids = destination + source;
     let answer = judge_offer(version, ids, offered, unused_bits, buffer.len());
@@ -117,7 +123,9 @@ fn write_long(
 // The answer for connection IDs of so many bytes in all: the refusals 23 to 26.
 fn judge_offer(version: u32, ids: usize, offered: &[u32], unused_bits: u8, room: usize) -> Written
     requires { ⌜ ids ≤ maxConnectionID + maxConnectionID ⌝ }
-    ensures { λ r. ⌜ writtenReply r ≡ judged Writing (offerRules version (countOf ids (now (offered .entry))) (now (offered .entry)) «unused_bits» room) (answered (countOf ids (now (offered .entry)))) ⌝ }
+    ensures { λ r. ⌜ writtenReply r ≡ judged Writing
+        (offerRules version (countOf ids (now (offered .entry))) (now (offered .entry)) «unused_bits» room)
+        (answered (countOf ids (now (offered .entry)))) ⌝ }
 {
     if !is_table(offered) {
         return Written::Refused(Refusal::BAD_OFFERED_TABLE);

@@ -7,7 +7,7 @@ ghost use Rattle.attempt.specs.Start.{inputOf, isAccepted};
 use attempt::Attempt;
 use attempt::Event;
 use client_start::start;
-use client_step::stepping::step;
+use client_step::step;
 use information::Presence;
 
 // The record of a start that is not refused.

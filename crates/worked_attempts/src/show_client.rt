@@ -12,7 +12,7 @@ use attempt::Event;
 use attempt::StartAnswer;
 use attempt::own::own_list;
 use client_start::start;
-use client_step::stepping::step;
+use client_step::step;
 use information::Presence;
 
 // A start with table 14, 12, 10, which may be refused.

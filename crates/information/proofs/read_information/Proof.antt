@@ -1,10 +1,10 @@
 -- `read_information`: the tests in the order of the code are the rules in the order of their numbers.
-use Prim.Native.Nat.{_%_, _<_, _≤_}
-use mathlib.Core.Bool.{not, _&&_}
-use mathlib.Core.List.{[], _∷_}
-use mathlib.Core.Path.{_≡_, sym}
+use Prim.Native.Nat.{ℕ, _%_, _<_, _≤_}
+use mathlib.Core.Bool.{true, false, not, _&&_}
+use mathlib.Core.List.{List, _∷_}
+use mathlib.Core.Path.{_≡_, sym, _∙_}
 use native.Mathlib.Omega.{arith}
-use lib.Dec.{eqb}
+use lib.Dec.{eqb, ltb}
 use lib.ListN.{length}
 use borrow.Author.Needs.{needs}
 use borrow.Author.Tests.{lt-ltb, le-ltb, eq-eqb, ne-eqb}
@@ -20,29 +20,58 @@ use Rattle.information.specs.Limits.{maxInformation}
 use Rattle.information.proofs.read_information.Statement.{statement}
 use Rattle.information.proofs.read_information.Tie as tie
 
+-- The start, seen from the place after each test of the length and after the Chosen Version was read
+abbrev start-1 : tie.Else1 → tie.Start
+start-1 c = c .before .before
+
+abbrev start-2 : tie.Else2 → tie.Start
+start-2 c = start-1 (c .before)
+
+abbrev start-3 : tie.Else3 → tie.Start
+start-3 c = start-2 (c .before)
+
+abbrev in-length : tie.After-big-endian → tie.Else3
+in-length c = c .before .before .before .before .before
+
+abbrev start : tie.After-big-endian → tie.Start
+start c = start-3 (in-length c)
+
+abbrev bytes : tie.Start → List ℕ
+bytes s = now (s .args .bytes)
+
+-- 31, 32 and 33 do not apply: each is told at its place
+not-31 : (c : tie.Else1) → ltb (length (bytes (start-1 c))) versionBytes ≡ false
+not-31 c =
+    let least : versionBytes ≤ length (bytes (start-1 c)) = omega arith in
+    le-ltb _ _ least
+
+not-32 : (c : tie.Else2) → eqb (length (bytes (start-2 c)) % versionBytes) 0 ≡ true
+not-32 c =
+    let fours : length (bytes (start-2 c)) % versionBytes ≡ 0 = omega arith in
+    eq-eqb _ _ fours
+
+not-33 : (c : tie.Else3) → ltb maxInformation (length (bytes (start-3 c))) ≡ false
+not-33 c =
+    let most : length (bytes (start-3 c)) ≤ maxInformation = omega arith in
+    le-ltb _ _ most
+
 returns : tie.Need-returns
 unfolding readInformation
 returns c =
-    let bytes = now (c .before .before .args .bytes) in
-    let short : length bytes < versionBytes = omega arith in
+    let short : length (bytes (c .before .before)) < versionBytes = omega arith in
     rw (lt-ltb _ _ short)
 
 returns-2 : tie.Need-returns-2
 unfolding readInformation
 returns-2 c =
-    let bytes = now (c .before .before .before .args .bytes) in
-    let least : versionBytes ≤ length bytes = omega arith in
-    let left-over : length bytes % versionBytes ≡ 0 → ⊥ = λ e. omega arith in
-    rw (le-ltb _ _ least, ne-eqb _ _ left-over)
+    let left-over : length (bytes (start-1 (c .before))) % versionBytes ≡ 0 → ⊥ = λ e. omega arith in
+    rw (not-31 (c .before), ne-eqb _ _ left-over)
 
 returns-3 : tie.Need-returns-3
 unfolding readInformation
 returns-3 c =
-    let bytes = now (c .before .before .before .before .args .bytes) in
-    let least : versionBytes ≤ length bytes = omega arith in
-    let fours : length bytes % versionBytes ≡ 0 = omega arith in
-    let long : maxInformation < length bytes = omega arith in
-    rw (le-ltb _ _ least, eq-eqb _ _ fours, lt-ltb _ _ long)
+    let long : maxInformation < length (bytes (start-2 (c .before))) = omega arith in
+    rw (not-31 (c .before .before), not-32 (c .before), lt-ltb _ _ long)
 
 shared-slice-read-big-endian : tie.Need-shared-slice-read-big-endian
 shared-slice-read-big-endian c = search needs
@@ -62,24 +91,31 @@ big-endian-requires c κs = search needs
 -- None of 31 to 33 applies, and the Chosen Version was read
 after-33 :
     (c : tie.After-big-endian) →
-    let args = c .before .before .before .before .before .before .before .before .before .args in
-    let bytes = now (args .bytes) in
-    readInformation (args .sender) bytes ≡
+    let s = start c in
+    readInformation (s .args .sender) (bytes s) ≡
     judged Reading
     ((34 when eqb (c .big-endian .result) 0) ∷
-    (35 when elem 0 (availableOf bytes)) ∷
-    senderRules (args .sender) (chosenOf bytes) (availableOf bytes))
-    (answered (foundIn bytes))
+    (35 when elem 0 (availableOf (bytes s))) ∷
+    senderRules (s .args .sender) (chosenOf (bytes s)) (availableOf (bytes s)))
+    (answered (foundIn (bytes s)))
 unfolding readInformation
 after-33 c =
-    let bytes = now (c .before .before .before .before .before .before .before .before .before .args .bytes) in
-    let least : versionBytes ≤ length bytes = omega arith in
-    let fours : length bytes % versionBytes ≡ 0 = omega arith in
-    let most : length bytes ≤ maxInformation = omega arith in
-    rw (le-ltb _ _ least, eq-eqb _ _ fours, le-ltb _ _ most, ← c .big-endian .ensures)
+    let k = in-length c in
+    rw (not-31 (k .before .before), not-32 (k .before), not-33 k, ← c .big-endian .ensures)
 
 returns-4 : tie.Need-returns-4
 returns-4 c = rw (after-33 (c .before), eq-eqb _ _ (c .if4 .taken))
+
+-- nor 34
+after-34 :
+    (c : tie.Else4) →
+    let s = start (c .before) in
+    readInformation (s .args .sender) (bytes s) ≡
+    judged Reading
+    ((35 when elem 0 (availableOf (bytes s))) ∷
+    senderRules (s .args .sender) (chosenOf (bytes s)) (availableOf (bytes s)))
+    (answered (foundIn (bytes s)))
+after-34 c = rw (after-33 (c .before), ne-eqb _ _ (c .if4 .left))
 
 sub-contains-in-bytes : tie.Need-sub-contains-in-bytes
 sub-contains-in-bytes c = search needs
@@ -94,18 +130,25 @@ contains-in-bytes-requires : tie.Need-contains-in-bytes-requires
 contains-in-bytes-requires c κs = search needs
 
 -- Whether an Available Version is 0, as `contains_in_bytes` answers
+abbrev not-zero : tie.After-contains-in-bytes → tie.Else4
+not-zero c = c .before .before
+
 zero-held :
     (c : tie.After-contains-in-bytes) →
-    let bytes = now (c .before .before .before .before .before .before .before .before .before .before .before .before .args .bytes) in
-    elem 0 (availableOf bytes) ≡ c .contains-in-bytes .result
-zero-held c =
-    let bytes = now (c .before .before .before .before .before .before .before .before .before .before .before .before .args .bytes) in
-    rw (← part-rest bytes 4) (sym (c .contains-in-bytes .ensures))
+    elem 0 (availableOf (bytes (start (not-zero c .before)))) ≡ c .contains-in-bytes .result
+zero-held c = rw (← part-rest (bytes (start (not-zero c .before))) 4) (sym (c .contains-in-bytes .ensures))
 
 returns-5 : tie.Need-returns-5
-returns-5 c =
-    let chosen = c .before .before .before in
-    rw (after-33 (chosen .before), ne-eqb _ _ (chosen .if4 .left), zero-held (c .before), c .if5 .taken)
+returns-5 c = rw (after-34 (not-zero (c .before)), zero-held (c .before) ∙ c .if5 .taken)
+
+-- nor 35
+after-35 :
+    (c : tie.Else5) →
+    let s = start (not-zero (c .before) .before) in
+    readInformation (s .args .sender) (bytes s) ≡
+    judged Reading (senderRules (s .args .sender) (chosenOf (bytes s)) (availableOf (bytes s)))
+    (answered (foundIn (bytes s)))
+after-35 c = rw (after-34 (not-zero (c .before)), zero-held (c .before) ∙ c .if5 .left)
 
 sub-read-lacks-chosen : tie.Need-sub-read-lacks-chosen
 sub-read-lacks-chosen c = search needs
@@ -119,44 +162,29 @@ part-read-lacks-chosen-end c = search needs
 read-lacks-chosen-requires : tie.Need-read-lacks-chosen-requires
 read-lacks-chosen-requires c κs = search needs
 
--- The sender's rule, as `read_lacks_chosen` answers
+-- Whether the sender's rule applies, as `read_lacks_chosen` answers
+abbrev no-zero : tie.After-read-lacks-chosen → tie.Else5
+no-zero c = c .before .before
+
+abbrev chosen-read : tie.After-read-lacks-chosen → tie.After-big-endian
+chosen-read c = not-zero (no-zero c .before) .before
+
 chosen-lacking :
     (c : tie.After-read-lacks-chosen) →
-    let args = c .before .before .before .before .before .before .before .before .before .before .before .before .before .before .before .args in
-    let bytes = now (args .bytes) in
-    (isClient (args .sender) && not (elem (chosenOf bytes) (availableOf bytes))) ≡ c .read-lacks-chosen .result
+    let s = start (chosen-read c) in
+    (isClient (s .args .sender) && not (elem (chosenOf (bytes s)) (availableOf (bytes s)))) ≡
+    c .read-lacks-chosen .result
 chosen-lacking c =
-    let chosen = c .before .before .before .before .before .before in
-    let bytes = now (chosen .before .before .before .before .before .before .before .before .before .args .bytes) in
-    rw (← part-rest bytes 4, ← chosen .big-endian .ensures) (sym (c .read-lacks-chosen .ensures))
-
--- None of 31 to 35 applies, so the sender's rule judges
-after-35 :
-    (c : tie.After-read-lacks-chosen) →
-    let args = c .before .before .before .before .before .before .before .before .before .before .before .before .before .before .before .args in
-    readInformation (args .sender) (now (args .bytes)) ≡
-    judged Reading ((36 when c .read-lacks-chosen .result) ∷ []) (answered (foundIn (now (args .bytes))))
-after-35 c =
-    let zero = c .before .before in
-    let chosen = zero .before .before .before in
-    rw (
-      after-33 (chosen .before),
-      ne-eqb _ _ (chosen .if4 .left),
-      zero-held (zero .before),
-      zero .if5 .left,
-      chosen-lacking c,
-    )
+    rw (← part-rest (bytes (start (chosen-read c))) 4, ← chosen-read c .big-endian .ensures)
+    (sym (c .read-lacks-chosen .ensures))
 
 returns-6 : tie.Need-returns-6
-returns-6 c = rw (after-35 (c .before), c .if6 .taken)
+returns-6 c = rw (after-35 (no-zero (c .before)), chosen-lacking (c .before) ∙ c .if6 .taken)
 
 returns-7 : tie.Need-returns-7
 returns-7 c =
-    rw (
-      after-35 (c .before),
-      c .if6 .left,
-      ← c .before .before .before .before .before .before .before .big-endian .ensures,
-    )
+    let k = c .before in
+    rw (after-35 (no-zero k), chosen-lacking k ∙ c .if6 .left, ← chosen-read k .big-endian .ensures)
 
 pub read-information-spec : {M : Type 1} → statement M
 read-information-spec =

@@ -64,25 +64,39 @@ part-put-list-end c = search needs
 put-list-requires : tie.Need-put-list-requires
 put-list-requires c κs = search needs
 
+-- Each call, seen from the call after it, and the start, seen from the first
+abbrev second-id : tie.After-put-list → tie.After-put-id2
+second-id c = c .before .before .before .before
+
+abbrev first-id : tie.After-put-id2 → tie.After-put-id
+first-id c = c .before .before .before .before
+
+abbrev front : tie.After-put-id → tie.After-put-front
+front c = c .before .before .before .before
+
+abbrev start : tie.After-put-front → tie.Start
+start c = c .before .before .before .before .before
+
 returns : tie.Need-returns
 returns c =
-    let start = c .before .before .before .before .before .before .before .before .before .before .before .before .before .before .before .before .before .before .before in
-    let front = c .before .before .before .before .before .before .before .before .before .before .before .before .before .before .put-front in
-    let first = c .before .before .before .before .before .before .before .before .before .before .put-id in
-    let second = c .before .before .before .before .before .before .put-id2 in
-    let list = c .before .before .put-list in
-    put-parts (now (start .args .received)) (now (start .args .offered)) (now (start .args .buffer)) (start .args .unused-bits)
-    (start .args .destination) (start .args .source) (front .last .1 .0) (first .last .1 .1 .1 .0) (second .last .1 .1 .1 .0) (list .last .1 .0)
-    (start .pre .0) (start .pre .1 .1) (front .ensures) (first .ensures) (second .ensures) (list .ensures .1)
+    let list = c .before .before in
+    let second = second-id list in
+    let first = first-id second in
+    let f = front first in
+    let s = start f in
+    put-parts (now (s .args .received)) (now (s .args .offered)) (now (s .args .buffer)) (s .args .unused-bits)
+    (s .args .destination) (s .args .source) (f .put-front .last .1 .0) (first .put-id .last .1 .1 .1 .0)
+    (second .put-id2 .last .1 .1 .1 .0) (list .put-list .last .1 .0) (s .pre .0) (s .pre .1 .1)
+    (f .put-front .ensures) (first .put-id .ensures) (second .put-id2 .ensures) (list .put-list .ensures .1)
 
 same-length : tie.Need-same-length
 same-length c =
-    let start = c .before .before .before .before .before .before .before .before .before .before .before .before .before .before .before .before .before .before .before in
-    let received = now (start .args .received) in
-    let offered = now (start .args .offered) in
+    let s = start (front (first-id (second-id (c .before .before)))) in
+    let received = now (s .args .received) in
+    let offered = now (s .args .offered) in
     ap length (returns c) ∙
-    length-put (packetFor received offered (start .args .unused-bits)) (now (start .args .buffer))
-    (rw (length-packetFor received offered (start .args .unused-bits) (start .pre .0 .within)) (start .pre .1 .1))
+    length-put (packetFor received offered (s .args .unused-bits)) (now (s .args .buffer))
+    (rw (length-packetFor received offered (s .args .unused-bits) (s .pre .0 .within)) (s .pre .1 .1))
 
 pub put-packet-spec : {M : Type 1} → statement M
 put-packet-spec =

@@ -76,7 +76,8 @@ same-length c = search needs
 
 returns-4 : tie.Need-returns-4
 returns-4 c =
-    let e = decides (c .before .before .before .before .before .before .before .before .before) _ (c .before .before .before .before .before .before .before .version .given .1) in
+    let k = c .before .before .before .before .before .before .before in
+    let e = decides (k .before .before) _ (k .version .given .1) in
     let long = c .before .before .write-long in
     (rw e (long .ensures .0), rw e (long .ensures .1))
 

@@ -12,7 +12,8 @@ use Rattle.server.proofs.first_accepted.Statement.{statement}
 use Rattle.server.proofs.first_accepted.Tie as tie
 
 abbrev Inv-loop : tie.InvT-loop
-Inv-loop accepted pairs chosen available i₀ i = (i ≤ length accepted) × (firstAccepted accepted pairs chosen (entries available) ≡ firstAccepted (drop i accepted) pairs chosen (entries available))
+Inv-loop accepted pairs chosen available i₀ i = (i ≤ length accepted) ×
+    (firstAccepted accepted pairs chosen (entries available) ≡ firstAccepted (drop i accepted) pairs chosen (entries available))
 
 abbrev μ-loop : tie.MeasureT-loop
 μ-loop accepted pairs chosen available i₀ i = length accepted - i

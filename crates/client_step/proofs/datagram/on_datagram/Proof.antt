@@ -35,16 +35,7 @@ on-negotiation-requires : tie.Need-on-negotiation-requires
 on-negotiation-requires c κs =
     let read = c .before .before .before in
     let s = from1 read in
-    let a = answered-by-reply (now (s .args .datagram)) _ _ _ _ (read .read-header .ensures) (c .before .destination .given .1) in (
-      s .pre,
-      record {
-        readable = a .readable;
-        within = a .known .within;
-        destination-is = a .destination-is;
-        source-is = a .source-is;
-        list-is = a .list-is;
-      },
-    )
+    (s .pre, answered-by-reply (now (s .args .datagram)) _ _ _ _ (read .read-header .ensures) (c .before .destination .given .1))
 
 enum-told : tie.Need-enum-told
 enum-told c = search needs
