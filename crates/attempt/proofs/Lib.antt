@@ -1,10 +1,10 @@
 pub mod Demand3
+pub mod Injective
 pub mod Keeps
 pub mod OwnLists
 pub mod Padded
 pub mod Phases
 pub mod PlainData
 pub mod Reaching
-pub mod Told
 pub mod Walks
 pub mod Worked

@@ -141,18 +141,18 @@ handed-back D token ensured u =
 module _ {M : Type 1} {𝓤 : URA M} {H : Heap 𝓤} {A : Atoms 𝓤} {K : Type 0} {W : Given 𝓤 H A} {Γ : List (Item 𝓤)}
     {E : Env 𝓤 H} {C : Calls 𝓤 H} {Λ : Loops 𝓤 H} {q : Post 𝓤 H} {f : Name} {xs : List Opd} {d : Place}
     {rest : syntax.Body} where
-  -- A call of a function whose result is plain data. Of the result are left its machine value and what was told
+  -- A call of a function whose result is plain data. Of the result are left its machine value and what was promised
   pub calls-plain : K → FmC 𝓤 H (W .laws) C → (c : Contract 𝓤) → Triple 𝓤 (C f) c → (x : c .Ghost) →
       Opds K W (raw (c .pre x) ∷ Γ) E xs (c .args x) →
-      (D : PlainData) (token : Item 𝓤) (ensured : D .row .Denot → SProp 𝓤) (Told : D .row .Denot → Type 0) →
+      (D : PlainData) (token : Item 𝓤) (ensured : D .row .Denot → SProp 𝓤) (Promised : D .row .Denot → Type 0) →
       ((u : Val) → ent 𝓤 (c .post x u) (mean 𝓤 H A (handed-back D token ensured u))) →
-      ((r : D .row .Denot) → ent 𝓤 (ensured r) (fact 𝓤 (Told r))) →
-      ((r : D .row .Denot) → IsData D r → Told r → Seq K W (token ∷ Γ) (lands C Λ E d (D .val r) rest q)) →
+      ((r : D .row .Denot) → ent 𝓤 (ensured r) (fact 𝓤 (Promised r))) →
+      ((r : D .row .Denot) → IsData D r → Promised r → Seq K W (token ∷ Γ) (lands C Λ E d (D .val r) rest q)) →
       Seq K W (raw (c .pre x) ∷ Γ) (runs C Λ E (seq (call f xs d) rest) q)
-  calls-plain t fm c met x read D token ensured Told back said k =
+  calls-plain t fm c met x read D token ensured Promised back said k =
       calls-at t fm c met x read (λ u.
       use1 W (handed-back D token ensured u) (back u) $ await t tt $ pick t (λ r.
-      split t $ move t (1 ∷ []) $ use1 W (raw (fact 𝓤 (Told r))) (said r) $ heard t (Told r) (λ told.
+      split t $ move t (1 ∷ []) $ use1 W (raw (fact 𝓤 (Promised r))) (said r) $ heard t (Promised r) (λ promised.
       split t $ move t (1 ∷ []) $ seen t D r (u ∷ []) (λ is. drop t $
       subst (λ (v : Val). Is (D .row) r (v ∷ []) → Seq K W (token ∷ Γ) (lands C Λ E d v rest q))
-      (sym (ap only (D .tells r (u ∷ []) is))) (λ is. k r is told) is))))
+      (sym (ap only (D .tells r (u ∷ []) is))) (λ is. k r is promised) is))))

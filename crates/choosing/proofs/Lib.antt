@@ -1,4 +1,4 @@
 pub mod Chosen
+pub mod Injective
 pub mod Laws
-pub mod Told
 pub mod Worked

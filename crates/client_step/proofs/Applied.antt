@@ -3,7 +3,7 @@ use Prim.Native.Nat.{ℕ}
 use mathlib.Core.Bool.{Bool, true, false}
 use mathlib.Core.Path.{_≡_, refl, sym, ap, _∙_}
 use Rattle.refusals.specs.Reply.{Reply, Reply.refused, Reply.answered}
-use Rattle.refusals.proofs.Told.{numbered}
+use Rattle.refusals.proofs.Injective.{numbered}
 use Rattle.attempt.specs.Attempt.{isOpen, put}
 use Rattle.attempt.specs.Step.{After, Effect, Effect.acts, Effect.notes, Effect.completes}
 use Rattle.attempt.specs.declared.Attempt.{Attempt}
@@ -45,8 +45,8 @@ verdict-back a Noted h = refl
 verdict-back a (Completed v) h = refl
 
 -- On an attempt that has ended, a refusal that leaves it and one that ends it again with the same number do the same.
-pub verdict-told : (a : Attempt) (v w : Verdict) → a .end ≡ Open → applied a v ≡ applied a w → v ≡ w
-verdict-told a v w h e =
+pub verdict-injective : (a : Attempt) (v w : Verdict) → a .end ≡ Open → applied a v ≡ applied a w → v ≡ w
+verdict-injective a v w h e =
     sym (verdict-back a v h) ∙
     ap (λ (s : After). verdictIn (isOpen (s .attempt .end)) (s .reply)) e ∙
     verdict-back a w h

@@ -1,4 +1,4 @@
 pub mod Headers
+pub mod Injective
 pub mod Negotiations
-pub mod Told
 pub mod WorkedHeaders

@@ -1,3 +1,3 @@
 pub mod Codes
+pub mod Injective
 pub mod Rules
-pub mod Told

@@ -1,3 +1,3 @@
 pub mod Flights
-pub mod Told
+pub mod Injective
 pub mod Worked

@@ -167,10 +167,10 @@ module _ {M : Type 1} (𝓤 : URA M) (H : Heap 𝓤) (A : Atoms 𝓤) (mem″ : 
     abbrev Kept : Stepped → Type 0
     Kept r = Reachable (r .attempt)
 
-    abbrev Told : Stepped → Type 0
-    Told r = Shown r × Kept r
+    abbrev Promised : Stepped → Type 0
+    Promised r = Shown r × Kept r
 
-    said : (r : Stepped) → ent 𝓤 (Ensured r) (fact 𝓤 (Told r))
+    said : (r : Stepped) → ent 𝓤 (Ensured r) (fact 𝓤 (Promised r))
     said r = exE 𝓤 _ (λ ws.
         via 𝓤 _ (snd∗ 𝓤 (sem 𝓤 H A (lasts step.ended (κ′, tt) passed ws)) (sep 𝓤 (fact 𝓤 (Shown r)) (fact 𝓤 (Kept r))))
         (via 𝓤 _ (sep→conj 𝓤 _ _) (both-say 𝓤 H A (Shown r) (Kept r) (id⊢ 𝓤 _) (id⊢ 𝓤 _))))
@@ -184,14 +184,14 @@ module _ {M : Type 1} (𝓤 : URA M) (H : Heap 𝓤) (A : Atoms 𝓤) (mem″ : 
         ‵ (fobs γ (lent.the-row .coded .code (r .attempt))) ∷ ‵ (fbor κ (Body (mem lent.the-row) b o γ)) ∷
         ‵ (flft κ q) ∷ Token ∷ ‵ Own ∷ []
 
-    exits : (r : Stepped) → Told r → IsData TheEvent e → IsData TheAnswer (r .answer) →
+    exits : (r : Stepped) → Promised r → IsData TheEvent e → IsData TheAnswer (r .answer) →
         ent 𝓤 (⋆ 𝓤 H A (Remains r)) (Post (TheAnswer .val (r .answer)))
-    exits r told e-is answer-is =
+    exits r promised e-is answer-is =
         qed W (Remains r) ∵
         suffices ! _
         (ends-at 𝓤 H A here.ended stayed (here.clauses 𝓤 H A mem″ run) W ((κs, qs, tt, args, at), tt)
         (TheAnswer .val (r .answer)) (r .answer) (r .attempt, (tt, (tt, tt))) (tt, (tt, (tt, tt)))) $
-        says ! (ap (λ (z : After). z .reply) (told .0), (ap (λ (z : After). z .attempt) (told .0), told .1)) $
+        says ! (ap (λ (z : After). z .reply) (promised .0), (ap (λ (z : After). z .attempt) (promised .0), promised .1)) $
         move ! (2 ∷ 3 ∷ []) $ join ! $ frame ! $
         -- [obs; the borrow; Own]
         feqI ! (List Val) (vptr b o ∷ []) (vptr b o ∷ []) refl $ fjoin3 ! $
@@ -227,7 +227,7 @@ module _ {M : Type 1} (𝓤 : URA M) (H : Heap 𝓤) (A : Atoms 𝓤) (mem″ : 
           calls-plain ! fm StepC known to
           (and-then ! (load ! (from ! (stop !)) (look ! 7 refl)) (and-then ! (load ! (from ! (stop !)) (look ! 13 refl))
           (and-then ! (load ! (from ! (stop !)) (look ! 11 refl)) (no-more !))))
-          TheStepped Token Ensured Told (λ u. id⊢ 𝓤 _) said (λ r r-is told.
+          TheStepped Token Ensured Promised (λ u. id⊢ 𝓤 _) said (λ r r-is promised.
           -- [Token; Own; the record's cell at 2; what it owned; the open borrow; obs; auth;
           -- _5 at 7; _4 at 9; _3 at 11; _2 at 13; _1 at 15; _0 at 17]
           land ! (from ! (stop !)) (init ! 9 refl (TheStepped .lawful 𝓤 H A W .typed r _ r-is .0)) $
@@ -247,7 +247,7 @@ module _ {M : Type 1} (𝓤 : URA M) (H : Heap 𝓤) (A : Atoms 𝓤) (mem″ : 
           forget ! 15 refl $
           move ! (15 ∷ 16 ∷ []) $ free1 ! $ move ! (13 ∷ 14 ∷ []) $ free1 ! $ move ! (11 ∷ 12 ∷ []) $ free1 ! $
           move ! (9 ∷ 10 ∷ []) $ free1 ! $ move ! (7 ∷ 8 ∷ []) $ free1 ! $ move ! (5 ∷ 6 ∷ []) $ free1 ! $ free0 ! $
-          by ! (exits r told e-is (is-answer r r-is))))))))))
+          by ! (exits r promised e-is (is-answer r r-is))))))))))
 
   -- 6. From the walk to the contract
   module _ (W : Given 𝓤 H A) where

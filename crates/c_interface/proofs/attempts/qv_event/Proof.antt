@@ -156,11 +156,11 @@ module _ {M : Type 1} (𝓤 : URA M) (H : Heap 𝓤) (A : Atoms 𝓤) (mem″ : 
     abbrev Ensured : RecordAndRefusal → SProp 𝓤
     Ensured r = ensured 𝓤 H A step.ended (step.clauses 𝓤 H A mem″ run) (κ′, tt) passed tt r
 
-    abbrev Told : RecordAndRefusal → Type 0
-    Told r = shownLeft r ≡ stepRecord was kind value (now bytes)
+    abbrev Promised : RecordAndRefusal → Type 0
+    Promised r = shownLeft r ≡ stepRecord was kind value (now bytes)
 
-    said : (r : RecordAndRefusal) → ent 𝓤 (Ensured r) (fact 𝓤 (Told r))
-    said r = exE 𝓤 _ (λ ws. snd∗ 𝓤 (sem 𝓤 H A (lasts step.ended (κ′, tt) passed ws)) (fact 𝓤 (Told r)))
+    said : (r : RecordAndRefusal) → ent 𝓤 (Ensured r) (fact 𝓤 (Promised r))
+    said r = exE 𝓤 _ (λ ws. snd∗ 𝓤 (sem 𝓤 H A (lasts step.ended (κ′, tt) passed ws)) (fact 𝓤 (Promised r)))
 
     -- 4. The exit: what the `ensures` says, then the tokens, then what the parameters and the answer own
     abbrev Post : Val → SProp 𝓤
@@ -171,14 +171,14 @@ module _ {M : Type 1} (𝓤 : URA M) (H : Heap 𝓤) (A : Atoms 𝓤) (mem″ : 
         ‵ (fobs γ (lent.the-row .coded .code (r .attempt))) ∷ ‵ (fbor κ (Body (mem lent.the-row) b o γ)) ∷
         ‵ (flft κ q) ∷ Token ∷ ‵ Own ∷ []
 
-    exits : (r : RecordAndRefusal) → Told r → IsData TheNumber kind → IsData TheNumber value →
+    exits : (r : RecordAndRefusal) → Promised r → IsData TheNumber kind → IsData TheNumber value →
         IsData TheAnswer (r .refusal) → ent 𝓤 (⋆ 𝓤 H A (Remains r)) (Post (TheAnswer .val (r .refusal)))
-    exits r told kind-is value-is answer-is =
+    exits r promised kind-is value-is answer-is =
         qed W (Remains r) ∵
         suffices ! _
         (ends-at 𝓤 H A here.ended stayed (here.clauses 𝓤 H A mem″ run) W ((κs, qs, tt, args, at), tt)
         (TheAnswer .val (r .refusal)) (r .refusal) (r .attempt, (tt, (tt, (tt, tt)))) (tt, (tt, (tt, (tt, tt))))) $
-        says ! (ap (λ (z : Left). z .refusal) told, ap (λ (z : Left). z .left) told) $
+        says ! (ap (λ (z : Left). z .refusal) promised, ap (λ (z : Left). z .left) promised) $
         move ! (2 ∷ 3 ∷ []) $ join ! $ frame ! $
         -- [obs; the borrow; Own]
         feqI ! (List Val) (vptr b o ∷ []) (vptr b o ∷ []) refl $ fjoin3 ! $
@@ -218,7 +218,7 @@ module _ {M : Type 1} (𝓤 : URA M) (H : Heap 𝓤) (A : Atoms 𝓤) (mem″ : 
           (and-then ! (load ! (from ! (stop !)) (look ! 7 refl)) (and-then ! (load ! (from ! (stop !)) (look ! 15 refl))
           (and-then ! (load ! (from ! (stop !)) (look ! 13 refl)) (and-then ! (load ! (from ! (stop !)) (look ! 11 refl))
           (no-more !)))))
-          TheStepped Token Ensured Told (λ u. id⊢ 𝓤 _) said (λ r r-is told.
+          TheStepped Token Ensured Promised (λ u. id⊢ 𝓤 _) said (λ r r-is promised.
           -- [Token; Own; the record's cell at 2; what it owned; the open borrow; obs; auth;
           -- _6 at 7; _5 at 9; _4 at 11; _3 at 13; _2 at 15; _1 at 17; _0 at 19]
           land ! (from ! (stop !)) (init ! 9 refl (TheStepped .lawful 𝓤 H A W .typed r _ r-is .0)) $
@@ -239,7 +239,7 @@ module _ {M : Type 1} (𝓤 : URA M) (H : Heap 𝓤) (A : Atoms 𝓤) (mem″ : 
           move ! (17 ∷ 18 ∷ []) $ free1 ! $ move ! (15 ∷ 16 ∷ []) $ free1 ! $ move ! (13 ∷ 14 ∷ []) $ free1 ! $
           move ! (11 ∷ 12 ∷ []) $ free1 ! $ move ! (9 ∷ 10 ∷ []) $ free1 ! $ move ! (7 ∷ 8 ∷ []) $ free1 ! $
           move ! (5 ∷ 6 ∷ []) $ free1 ! $ free0 ! $
-          by ! (exits r told kind-is value-is (is-answer r r-is)))))))))))
+          by ! (exits r promised kind-is value-is (is-answer r r-is)))))))))))
 
   -- 6. From the walk to the contract
   module _ (W : Given 𝓤 H A) where

@@ -7,8 +7,8 @@ use Rattle.refusals.specs.declared.Refusal.{Refusal}
 use Rattle.refusals.specs.declared.Written.{Written}
 use Rattle.refusals.specs.declared.Written.the-variants.{Refused, Count}
 
-pub told-apart : {A B : Type 0} (f : A → B) (g : B → A) → ((a : A) → g (f a) ≡ a) → (a b : A) → f a ≡ f b → a ≡ b
-told-apart f g back a b e = sym (back a) ∙ ap g e ∙ back b
+pub injective-by : {A B : Type 0} (f : A → B) (g : B → A) → ((a : A) → g (f a) ≡ a) → (a b : A) → f a ≡ f b → a ≡ b
+injective-by f g back a b e = sym (back a) ∙ ap g e ∙ back b
 
 -- The refusal of a number
 abbrev pub numbered : ℕ → Refusal
@@ -23,5 +23,5 @@ unfolding written
 written-back (Refused r) = refl
 written-back (Count n) = refl
 
-pub written-told : (a b : Written) → writtenReply a ≡ writtenReply b → a ≡ b
-written-told = told-apart writtenReply written written-back
+pub written-injective : (a b : Written) → writtenReply a ≡ writtenReply b → a ≡ b
+written-injective = injective-by writtenReply written written-back

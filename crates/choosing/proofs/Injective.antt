@@ -2,7 +2,7 @@
 use Prim.Native.Nat.{ℕ}
 use mathlib.Core.Path.{_≡_, refl}
 use Rattle.refusals.specs.Reply.{Reply, Reply.refused, Reply.answered}
-use Rattle.refusals.proofs.Told.{told-apart, numbered}
+use Rattle.refusals.proofs.Injective.{injective-by, numbered}
 use Rattle.choosing.specs.Choice.{choiceReply}
 use Rattle.choosing.specs.declared.Choice.{Choice}
 use Rattle.choosing.specs.declared.Choice.the-variants as choice
@@ -16,5 +16,5 @@ unfolding chosen
 chosen-back (choice.Refused r) = refl
 chosen-back (choice.Version v) = refl
 
-pub choice-told : (a b : Choice) → choiceReply a ≡ choiceReply b → a ≡ b
-choice-told = told-apart choiceReply chosen chosen-back
+pub choice-injective : (a b : Choice) → choiceReply a ≡ choiceReply b → a ≡ b
+choice-injective = injective-by choiceReply chosen chosen-back

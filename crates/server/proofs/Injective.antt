@@ -1,7 +1,7 @@
 -- The definition that sets out the cases of a decision tells them apart.
 use mathlib.Core.Path.{_≡_, refl}
 use Rattle.refusals.specs.Reply.{Reply, Reply.refused, Reply.answered}
-use Rattle.refusals.proofs.Told.{told-apart, numbered}
+use Rattle.refusals.proofs.Injective.{injective-by, numbered}
 use Rattle.server.specs.FirstFlight.{Act, Act.negotiate, Act.use-version, decisionReply}
 use Rattle.server.specs.declared.Decision.{Decision}
 use Rattle.server.specs.declared.Decision.the-variants.{Refused, Negotiate, Use}
@@ -17,5 +17,5 @@ decision-back (Refused r) = refl
 decision-back Negotiate = refl
 decision-back (Use v) = refl
 
-pub decision-told : (a b : Decision) → decisionReply a ≡ decisionReply b → a ≡ b
-decision-told = told-apart decisionReply decision decision-back
+pub decision-injective : (a b : Decision) → decisionReply a ≡ decisionReply b → a ≡ b
+decision-injective = injective-by decisionReply decision decision-back

@@ -1,7 +1,7 @@
 -- The definitions that set out the cases of a start and of an event's answer tell them apart.
 use mathlib.Core.Path.{_≡_, refl}
 use Rattle.refusals.specs.Reply.{Reply, Reply.refused, Reply.answered}
-use Rattle.refusals.proofs.Told.{told-apart, numbered}
+use Rattle.refusals.proofs.Injective.{injective-by, numbered}
 use Rattle.attempt.specs.Start.{Nothing, Nothing.nothing, Start, startReply, shownStart}
 use Rattle.attempt.specs.Step.{After, Effect, Effect.acts, Effect.notes, Effect.completes, answerReply, shown}
 use Rattle.attempt.specs.declared.Answer.{Answer}
@@ -28,8 +28,8 @@ started-back : (s : Started) → started (shownStart s) ≡ s
 unfolding started
 started-back s = λ i. record { attempt = s .attempt; answer = start-back (s .answer) i }
 
-pub start-told : (a b : Started) → shownStart a ≡ shownStart b → a ≡ b
-start-told = told-apart shownStart started started-back
+pub start-injective : (a b : Started) → shownStart a ≡ shownStart b → a ≡ b
+start-injective = injective-by shownStart started started-back
 
 answerOf : Reply Effect → Answer
 answerOf (refused n c) = answer.Refused (numbered n)
@@ -52,5 +52,5 @@ stepped-back : (s : Stepped) → stepped (shown s) ≡ s
 unfolding stepped
 stepped-back s = λ i. record { attempt = s .attempt; answer = answer-back (s .answer) i }
 
-pub step-told : (a b : Stepped) → shown a ≡ shown b → a ≡ b
-step-told = told-apart shown stepped stepped-back
+pub step-injective : (a b : Stepped) → shown a ≡ shown b → a ≡ b
+step-injective = injective-by shown stepped stepped-back

@@ -1,7 +1,7 @@
 -- The definition that sets out the cases of a header tells them apart.
 use mathlib.Core.Path.{_≡_, refl}
 use Rattle.refusals.specs.Reply.{Reply, Reply.refused, Reply.answered}
-use Rattle.refusals.proofs.Told.{told-apart, numbered}
+use Rattle.refusals.proofs.Injective.{injective-by, numbered}
 use Rattle.invariants.specs.Header.{Form, Form.long, Form.short, Form.versionNegotiation, headerReply}
 use Rattle.invariants.specs.declared.Header.{Header}
 use Rattle.invariants.specs.declared.Header.the-variants.{Refused, Long, Short, VersionNegotiation}
@@ -19,5 +19,5 @@ header-back (Long v d s r) = refl
 header-back (Short d r) = refl
 header-back (VersionNegotiation d s l) = refl
 
-pub header-told : (a b : Header) → headerReply a ≡ headerReply b → a ≡ b
-header-told = told-apart headerReply header header-back
+pub header-injective : (a b : Header) → headerReply a ≡ headerReply b → a ≡ b
+header-injective = injective-by headerReply header header-back

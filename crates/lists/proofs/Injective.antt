@@ -2,7 +2,7 @@
 use Prim.Native.Nat.{ℕ}
 use mathlib.Core.Option.{Option, Option.none, Option.some}
 use mathlib.Core.Path.{_≡_, refl}
-use Rattle.refusals.proofs.Told.{told-apart}
+use Rattle.refusals.proofs.Injective.{injective-by}
 use Rattle.lists.specs.Wire.{entryReply}
 use Rattle.lists.specs.declared.Entry.{Entry}
 use Rattle.lists.specs.declared.Entry.the-variants as entry
@@ -16,5 +16,5 @@ unfolding found
 found-back (entry.Version v) = refl
 found-back entry.Nothing = refl
 
-pub entry-told : (a b : Entry) → entryReply a ≡ entryReply b → a ≡ b
-entry-told = told-apart entryReply found found-back
+pub entry-injective : (a b : Entry) → entryReply a ≡ entryReply b → a ≡ b
+entry-injective = injective-by entryReply found found-back

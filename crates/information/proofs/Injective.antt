@@ -1,7 +1,7 @@
 -- The definition that sets out the cases of Version Information tells them apart.
 use mathlib.Core.Path.{_≡_, refl}
 use Rattle.refusals.specs.Reply.{Reply, Reply.refused, Reply.answered}
-use Rattle.refusals.proofs.Told.{told-apart, numbered}
+use Rattle.refusals.proofs.Injective.{injective-by, numbered}
 use Rattle.information.specs.Information.{Found, informationReply}
 use Rattle.information.specs.declared.Information.{Information}
 use Rattle.information.specs.declared.Information.the-variants.{Refused, Read}
@@ -15,5 +15,5 @@ unfolding information
 information-back (Refused r) = refl
 information-back (Read c a) = refl
 
-pub information-told : (a b : Information) → informationReply a ≡ informationReply b → a ≡ b
-information-told = told-apart informationReply information information-back
+pub information-injective : (a b : Information) → informationReply a ≡ informationReply b → a ≡ b
+information-injective = injective-by informationReply information information-back
