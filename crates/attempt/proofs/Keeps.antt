@@ -1,19 +1,20 @@
--- What every attempt keeps: what a start makes and no event changes holds of every attempt. Its counts are within
--- their arrays, and its table has an entry; so the blank record of a refused start is no attempt.
+-- What every attempt keeps: what a start makes and no event loses holds of every attempt. So does what is judged of any
+-- record value: counts within their arrays, and an attempted version of the table. The blank record of a refused start
+-- is no attempt.
 use Prim.Native.Nat.{ℕ, _≤_}
 use mathlib.Core.Bool.{Bool, true, false, cond, not, _&&_, and-false, or-true, false≢true}
 use mathlib.Core.List.{List, [], _∷_}
 use mathlib.Core.Option.{Option, Option.none, Option.some}
 use mathlib.Core.Path.{_≡_, refl, sym, subst, _∙_}
-use native.Mathlib.Omega.{arith}
 use lib.Dec.{leb, ltb}
 use lib.ListN.{length}
-use borrow.Author.Tests.{ltb-false, not-false}
+use borrow.Author.Tests.{ltb-false, not-false, le-leb}
 use Rattle.refusals.specs.Rule.{Rule, Rule._when_, lowest}
 use Rattle.refusals.proofs.Rules.{both-true, lowest-any}
 use Rattle.choosing.specs.Choice.{preferred}
+use Rattle.choosing.proofs.Laws.{preferred-held}
 use Rattle.versions.specs.Limits.{maxTable}
-use Rattle.versions.specs.Table.{tableKeepsRule}
+use Rattle.versions.specs.Table.{elem, tableKeepsRule}
 use Rattle.versions.proofs.Lists.{table-counts}
 use Rattle.invariants.specs.Header.{listed}
 use Rattle.information.specs.declared.Presence.{Presence}
@@ -23,11 +24,12 @@ use Rattle.attempt.specs.Events.{Handed, run, Reachable}
 use Rattle.attempt.specs.Limits.{maxID}
 use Rattle.attempt.specs.Start.{Input, isAccepted, startOf, opened, blank}
 use Rattle.attempt.specs.Step.{After, Effect.notes, actOn, after, closed, completed, unchanged, datagramRules, missingRules, informationRules}
-use Rattle.attempt.specs.Step.{onDatagram, onOutcome, onProcessed, stepOf}
+use Rattle.attempt.specs.Step.{onDatagram, onOutcome, onProcessed, stepOf, countsFit, couldBeAttempt}
 use Rattle.attempt.specs.declared.Attempt.{Attempt}
 use Rattle.attempt.specs.declared.Event.{Event}
 use Rattle.attempt.specs.declared.Event.the-variants.{Datagram, PacketProcessed, Outcome}
 use Rattle.attempt.proofs.Demand3.{start-accepted}
+use Rattle.attempt.proofs.Phases.{opened-reads}
 
 -- The numbers of the rules are bytes
 
@@ -53,7 +55,7 @@ outcome-bytes a u Given bytes = refl
 -- What holds of a record, and of it after each thing that an event may do to it
 pub record Keeps (P : Attempt → Type 0) (a : Attempt) : Type 0 where
   pub stays : (n : ℕ) → P (unchanged a n .attempt)
-  pub acts : (v : ℕ) → P (put a v true (a .heard) (a .end))
+  pub acts : (v : ℕ) → elem v (tableOf a) ≡ true → P (put a v true (a .heard) (a .end))
   pub notes : P (put a (a .attempted) (a .acted) true (a .end))
   pub closes : (n : ℕ) → leb n 255 ≡ true → P (closed a n .attempt)
   pub completes : (v : ℕ) → P (completed a v .attempt)
@@ -63,9 +65,9 @@ module _ (P : Attempt → Type 0) (a : Attempt) (k : Keeps P a) where
   abbrev Held : After → Type 0
   Held s = P (s .attempt)
 
-  acted-keeps : (o : Option ℕ) → Held (actOn a o)
-  acted-keeps none = k .closes 65 refl
-  acted-keeps (some v) = k .acts v
+  acted-keeps : (list : List ℕ) (o : Option ℕ) → preferred (tableOf a) list ≡ o → Held (actOn a o)
+  acted-keeps list none e = k .closes 65 refl
+  acted-keeps list (some v) e = k .acts v (preferred-held (tableOf a) list v e .0)
 
   -- an outcome, on an open attempt and on an ended one
   outcome-keeps : (b : Bool) (rules : List Rule) (u : ℕ) → bytesOnly rules ≡ true →
@@ -77,7 +79,7 @@ module _ (P : Attempt → Type 0) (a : Attempt) (k : Keeps P a) where
   unfolding stepOf onDatagram onProcessed onOutcome
   step-keeps Datagram bytes =
       lowest-any (unchanged a) (actOn a (preferred (tableOf a) (listed bytes))) Held (k .stays)
-      (acted-keeps (preferred (tableOf a) (listed bytes)))
+      (acted-keeps (listed bytes) (preferred (tableOf a) (listed bytes)) refl)
       (datagramRules a bytes)
   step-keeps PacketProcessed bytes =
       lowest-any (unchanged a) (after (put a (a .attempted) (a .acted) true (a .end)) notes) Held (k .stays) (k .notes)
@@ -99,39 +101,51 @@ module _ (P : Attempt → Type 0) (keeps : (a : Attempt) → P a → Keeps P a) 
       let started : P (startOf x .attempt) = subst P (sym (start-accepted x (r .accepted))) (opens x (r .accepted)) in
       subst P (r .reached) (run-keeps (startOf x .attempt) (r .events) started)
 
--- The counts
-
 -- An accepted start breaks no rule
 not-broken : {accepted : Bool} (broken : Bool) → (broken ≡ true → accepted ≡ false) → accepted ≡ true → broken ≡ false
 not-broken true refuses h = absurd (false≢true (sym (refuses refl) ∙ h))
 not-broken false refuses h = refl
 
--- Each count is within its array, and a table has an entry
-abbrev Counted : Attempt → Type 0
-Counted a =
-    (1 ≤ a .«table_len») × (a .«table_len» ≤ maxTable) × (a .«destination_len» ≤ maxID) × (a .«source_len» ≤ maxID)
+-- What is judged of any record value holds of every attempt
 
-counts-kept : (a : Attempt) → Counted a → Keeps Counted a
-counts-kept a c =
-    record { stays = λ n. c; acts = λ v. c; notes = c; closes = λ n h. c; completes = λ v. c }
+abbrev Passing : Attempt → Type 0
+Passing a = couldBeAttempt a ≡ true
 
-opened-counts : (x : Input) → isAccepted x ≡ true → Counted (opened x)
+pub passing-kept : (a : Attempt) → Passing a → Keeps Passing a
+passing-kept a c =
+    let counts = both-true (countsFit a) _ c .0 in
+    record {
+      stays = λ n. c;
+      acts = λ v held. rw (counts, held);
+      notes = c;
+      closes = λ n byte. c;
+      completes = λ v. c;
+    }
+
+opened-passes : (x : Input) → isAccepted x ≡ true → Passing (opened x)
 unfolding opened
-opened-counts x h =
+opened-passes x h =
     let table = not-broken (not (tableKeepsRule (x .table))) (λ e. simp (e, and-false)) h in
+    let original = not-broken (not (elem (x .original) (x .table))) (λ e. simp (e, and-false)) h in
     let destination = not-broken (ltb maxID (length (x .destination))) (λ e. simp (e, and-false)) h in
     let source = not-broken (ltb maxID (length (x .source))) (λ e. simp (e, or-true, and-false)) h in
     let counts = table-counts (x .table) (not-false _ table) in
-    (counts .0, counts .1, ltb-false _ _ destination, ltb-false _ _ source)
+    fits (counts .1) (ltb-false _ _ destination) (ltb-false _ _ source) (not-false _ original)
+  where
+    fits : length (x .table) ≤ maxTable → length (x .destination) ≤ maxID → length (x .source) ≤ maxID →
+        elem (x .original) (x .table) ≡ true → Passing (opened x)
+    fits t d s o = rw (le-leb _ _ t, le-leb _ _ d, le-leb _ _ s, opened-reads x .table, o)
 
-every-count : (a : Attempt) → Reachable a → Counted a
-every-count a r = every-attempt Counted counts-kept opened-counts a r
+pub start-passes : (x : Input) → isAccepted x ≡ true → Passing (startOf x .attempt)
+start-passes x h = subst Passing (sym (start-accepted x h)) (opened-passes x h)
 
-pub reachable-counts : {a : Attempt} → Reachable a →
-    (a .«table_len» ≤ maxTable) × (a .«destination_len» ≤ maxID) × (a .«source_len» ≤ maxID)
-reachable-counts {a} r = let c = every-count a r in (c .1, c .2, c .3)
+pub reachable-passes : {a : Attempt} → Reachable a → Passing a
+reachable-passes {a} r = every-attempt Passing passing-kept opened-passes a r
 
--- No event's premise holds of the blank record
+-- No event's premise holds of the blank record of a refused start, and none is judged on it
+pub blank-refused : couldBeAttempt blank ≡ false
+unfolding blank elem
+blank-refused = refl
+
 pub blank-not-reachable : Reachable blank → ⊥
-unfolding blank
-blank-not-reachable r = let c = every-count blank r .0 in omega (arith, c)
+blank-not-reachable r = false≢true (sym blank-refused ∙ reachable-passes r)

@@ -1,3 +1,4 @@
+pub mod Completing
 pub mod Demand3
 pub mod Injective
 pub mod Keeps

@@ -1,13 +1,13 @@
 -- The own list that the record keeps as words is document 01's.
 use Prim.Native.Nat.{ℕ, _+_, _*_, _/_, _%_}
-use mathlib.Core.Bool.{Bool, true, false, cond, _||_, false≢true}
+use mathlib.Core.Bool.{Bool, true, false, cond, _||_, or-true, false≢true}
 use mathlib.Core.List.{List, [], _∷_, _++_}
 use mathlib.Core.Path.{_≡_, refl, ap}
 use native.Mathlib.Omega.{arith}
 use lib.Dec.{eqb}
 use borrow.Author.Tests.{eqb-true}
 use Rattle.versions.specs.Table.{elem}
-use Rattle.attempt.specs.OwnList.{mayBeAnswered, bit, ownList, wordFor, rowsFor, members, wordOf}
+use Rattle.attempt.specs.OwnList.{mayBeAnswered, bit, keepIf, ownList, wordFor, rowsFor, members, wordOf}
 
 -- the lowest bit of a word, and the rest of it
 lowest-bit : (b : Bool) (w : ℕ) → eqb ((bit b + 2 * w) % 2) 1 ≡ b
@@ -25,6 +25,21 @@ members-word [] pairs v = refl
 members-word (t ∷ table) pairs v =
     let b = mayBeAnswered pairs v t in
     rw (lowest-bit b (wordFor table pairs v), rest-bits b (wordFor table pairs v), members-word table pairs v)
+
+-- the entries of a word are entries of the table
+pub members-held : (word : ℕ) (table : List ℕ) (v : ℕ) → elem v (members word table) ≡ true → elem v table ≡ true
+unfolding members elem
+members-held word [] v h = h
+members-held word (t ∷ table) v h = go (eqb (word % 2) 1) h (members-held (word / 2) table v)
+  where
+    either : (b p q : Bool) → (b || p) ≡ true → (p ≡ true → q ≡ true) → (b || q) ≡ true
+    either true p q h f = refl
+    either false p q h f = f h
+
+    go : (b : Bool) → elem v (keepIf b t (members (word / 2) table)) ≡ true →
+        (elem v (members (word / 2) table) ≡ true → elem v table ≡ true) → (eqb t v || elem v table) ≡ true
+    go true h ih = either (eqb t v) _ _ h ih
+    go false h ih = rw (ih h) (or-true (eqb t v))
 
 -- the word of a table entry is the one that was made for it
 pub word-of-row : (vs table : List ℕ) (pairs : List (List ℕ)) (rest : List ℕ) (v : ℕ) → elem v vs ≡ true →

@@ -132,7 +132,7 @@ firstIsGood x v [] = false
 firstIsGood x v (e ∷ es) = isGoodAt x v (e .event) (e .bytes) (firstIsGood x v es)
 
 -- the attempt completes where no rule applies
-completes-clear : (a : Attempt) (u : ℕ) (rs : List Rule) →
+pub completes-clear : (a : Attempt) (u : ℕ) (rs : List Rule) →
     isCompleted (lowest (closed a) rs (completed a u) .attempt .end) ≡ clear rs
 completes-clear a u [] = refl
 completes-clear a u ((n when true) ∷ rs) = refl
@@ -169,7 +169,7 @@ information-good x v a u Given bytes s =
     go false = refl
 
 -- an outcome on an open attempt
-open-outcome : (a : Attempt) (u : ℕ) (p : Presence) (bytes : List ℕ) → a .end ≡ end.Open →
+pub open-outcome : (a : Attempt) (u : ℕ) (p : Presence) (bytes : List ℕ) → a .end ≡ end.Open →
     stepOf a (Outcome u p) bytes ≡ lowest (closed a) (informationRules a u p bytes) (completed a u)
 unfolding stepOf onOutcome
 open-outcome a u p bytes h =

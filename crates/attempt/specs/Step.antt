@@ -145,7 +145,12 @@ stepOf a (Outcome inUse presence) bytes = onOutcome a inUse presence bytes
 abbrev pub countsFit : Attempt → Bool
 countsFit a = leb (a .«table_len») maxTable && (leb (a .«destination_len») maxID && leb (a .«source_len») maxID)
 
--- The step for any record value: one with impossible counts is left as found and refused with a number that is
--- outside document 01
+-- What is judged of any record value: its counts, and that its attempted version is in its table. Every attempt
+-- passes; zeroed memory and the record of a refused start do not.
+abbrev pub couldBeAttempt : Attempt → Bool
+couldBeAttempt a = countsFit a && elem (a .attempted) (tableOf a)
+
+-- The step for any record value: one that could not be an attempt's is left as found and refused with a number that
+-- is outside document 01
 unfoldable pub stepOfAny : Attempt → Event → List ℕ → After
-stepOfAny a event bytes = cond (countsFit a) (stepOf a event bytes) (unchanged a notARecord)
+stepOfAny a event bytes = cond (couldBeAttempt a) (stepOf a event bytes) (unchanged a notARecord)
