@@ -5,7 +5,7 @@ use Rattle.attempt.specs.declared.Attempt.{Attempt}
 use Rattle.client_step.specs.Verdicts.{applied}
 use Rattle.client_step.specs.declared.Verdict.{Verdict}
 use Rattle.client_step.specs.declared.Verdict.the-variants.{Unchanged, Closed, Acted, Noted, Completed}
-use Rattle.c_record.specs.Records.{isRecord, attemptOf, recordOf, leftAfter}
+use Rattle.c_record.specs.Records.{marksFit, attemptOf, recordOf, leftAfter}
 use Rattle.c_record.specs.Verdicts.{appliedRecord}
 use Rattle.c_record.specs.declared.Record.{Record}
 use Rattle.c_record.proofs.Records.{record-back}
@@ -19,5 +19,5 @@ verdict-of a (Acted v) = refl
 verdict-of a Noted = refl
 verdict-of a (Completed v) = refl
 
-pub verdict-left : (r : Record) → isRecord r ≡ true → (v : Verdict) → appliedRecord r v ≡ leftAfter (applied (attemptOf r) v)
+pub verdict-left : (r : Record) → marksFit r ≡ true → (v : Verdict) → appliedRecord r v ≡ leftAfter (applied (attemptOf r) v)
 verdict-left r h v = sym (verdict-of (attemptOf r) v ∙ ap (λ (x : Record). appliedRecord x v) (record-back r h))

@@ -8,7 +8,7 @@ use mathlib.Core.Option.{Option, Option.none, Option.some}
 use mathlib.Core.Path.{_≡_, refl, sym, ap, _∙_}
 use Rattle.information.specs.declared.Presence.the-variants.{Missing, Given}
 use Rattle.attempt.specs.Events.{Handed, run}
-use Rattle.attempt.specs.Start.{Input, startOf}
+use Rattle.attempt.specs.Start.{Input, isAccepted, startOf}
 use Rattle.attempt.specs.Step.{stepOf}
 use Rattle.attempt.specs.declared.Attempt.{Attempt}
 use Rattle.attempt.specs.declared.Event.{Event}
@@ -67,6 +67,7 @@ same-run a (e ∷ es) f =
     ap (λ (s : Left). runRecord (s .left) es) (same-event a (e .event) (e .bytes) f) ∙
     same-run (stepOf a (e .event) (e .bytes) .attempt) es (step-fits a (e .event) (e .bytes) f)
 
--- From the start on: the records of the C interface are those of the client's attempt
-pub same-from-start : (x : Input) (es : List Handed) → runRecord (startRecord x .left) es ≡ recordOf (run (startOf x .attempt) es)
-same-from-start x es = same-run (startOf x .attempt) es (start-fits x)
+-- From an accepted start on: the records of the C interface are those of the client's attempt
+pub same-from-start : (x : Input) (es : List Handed) → isAccepted x ≡ true →
+    runRecord (startRecord x .left) es ≡ recordOf (run (startOf x .attempt) es)
+same-from-start x es h = same-run (startOf x .attempt) es (start-fits x h)

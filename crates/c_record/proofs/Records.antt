@@ -4,26 +4,26 @@ use Prim.Native.Nat.{ℕ, _≤_}
 use mathlib.Core.Bool.{Bool, true, false, cond, _&&_}
 use mathlib.Core.List.{List, []}
 use mathlib.Core.Option.{Option.none, Option.some}
-use mathlib.Core.Path.{_≡_, refl, sym}
+use mathlib.Core.Path.{_≡_, refl, sym, ap, _∙_}
 use native.Mathlib.Omega.{arith}
 use lib.Dec.{eqb, leb}
+use lib.ListN.{replicate}
 use borrow.Author.Tests.{leb-true, ne-eqb, eqb-true, eqb-false}
 use Rattle.refusals.proofs.Rules.{both-true, lowest-applies}
 use Rattle.versions.specs.Limits.{maxTable}
-use Rattle.attempt.specs.Events.{run}
-use Rattle.attempt.specs.Limits.{maxID}
+use Rattle.versions.specs.Table.{elem}
+use Rattle.attempt.specs.Limits.{maxID, notARecord}
 use Rattle.attempt.specs.Start.{Input, Start, isAccepted, startRules, startOf, refusedStart, openedStart, opened, blank}
-use Rattle.attempt.specs.Step.{countsFit, stepOf}
+use Rattle.attempt.specs.Step.{unchanged, stepOf, stepOfAny, countsFit, couldBeAttempt}
 use Rattle.attempt.specs.declared.Attempt.{Attempt}
 use Rattle.attempt.specs.declared.End.{End}
 use Rattle.attempt.specs.declared.End.the-variants.{Open, Completed, Closed}
 use Rattle.attempt.specs.declared.Event.{Event}
 use Rattle.attempt.proofs.Demand3.{start-accepted}
-use Rattle.attempt.proofs.Keeps.{Keeps, step-keeps, reachable-counts}
-use Rattle.client_step.proofs.Steps.{counts-all}
+use Rattle.attempt.proofs.Keeps.{Keeps, step-keeps, passing-kept, start-passes}
 use Rattle.c_record.specs.Numbers.{flag}
-use Rattle.c_record.specs.Records.{markFits, endOf, markOf, markValue, isRecord, attemptOf, recordOf}
-use Rattle.c_record.specs.Records.{eventOf, leftAfter, asFound, stepRecord}
+use Rattle.c_record.specs.Records.{marksFit, markFits, endOf, markOf, markValue, isRecord, attemptOf, recordOf, zeroed}
+use Rattle.c_record.specs.Records.{eventOf, eventOn, leftAfter, asFound, stepRecord}
 use Rattle.c_record.specs.declared.Record.{Record}
 
 -- The number of a closed end is a byte
@@ -32,39 +32,24 @@ closed-value mark value n m h =
     let e = rw (ne-eqb mark 0 n, ne-eqb mark 1 m) at h in
     leb-true _ _ (both-true (eqb mark 2) (leb value 255) e .1)
 
--- What the test of a record tells
+-- What the test of flags, mark and unused word tells
 pub record Fitting (r : Record) : Type 0 where
-  pub table : r .«table_len» ≤ maxTable
-  pub destination : r .«destination_len» ≤ maxID
-  pub source : r .«source_len» ≤ maxID
   pub acted : leb (r .acted) 1 ≡ true
   pub heard : leb (r .heard) 1 ≡ true
   pub mark : markFits (r .«end_mark») (r .«end_value») ≡ true
   pub unused : eqb (r .unused) 0 ≡ true
 
-pub fitting : (r : Record) → isRecord r ≡ true → Fitting r
-unfolding isRecord
+pub fitting : (r : Record) → marksFit r ≡ true → Fitting r
 fitting r h =
-    let t = both-true (leb (r .«table_len») maxTable) _ h in
-    let d = both-true (leb (r .«destination_len») maxID) _ (t .1) in
-    let s = both-true (leb (r .«source_len») maxID) _ (d .1) in
-    let a = both-true (leb (r .acted) 1) _ (s .1) in
+    let a = both-true (leb (r .acted) 1) _ h in
     let b = both-true (leb (r .heard) 1) _ (a .1) in
     let m = both-true (markFits (r .«end_mark») (r .«end_value»)) _ (b .1) in
-    record {
-      table = leb-true _ _ (t .0);
-      destination = leb-true _ _ (d .0);
-      source = leb-true _ _ (s .0);
-      acted = a .0;
-      heard = b .0;
-      mark = m .0;
-      unused = m .1;
-    }
+    record { acted = a .0; heard = b .0; mark = m .0; unused = m .1 }
 
--- The counts of its attempt
-pub record-counts : (r : Record) → isRecord r ≡ true → countsFit (attemptOf r) ≡ true
-unfolding attemptOf
-record-counts r h = let f = fitting r h in counts-all (attemptOf r) (f .table) (f .destination) (f .source)
+-- A record that events take: both parts of its test
+pub record-parts : (r : Record) → isRecord r ≡ true → (marksFit r ≡ true) × (couldBeAttempt (attemptOf r) ≡ true)
+unfolding isRecord
+record-parts r h = both-true (marksFit r) _ h
 
 -- An attempt comes back from its record
 
@@ -105,7 +90,7 @@ end-whole m x h = go (eqb m 0) (eqb m 1) refl refl h where
       let two = both-true (eqb m 2) (leb x 255) k in
       record { mark-is = sym (eqb-true m 2 (two .0)); value-is = refl; fits = two .1 }
 
-pub record-back : (r : Record) → isRecord r ≡ true → recordOf (attemptOf r) ≡ r
+pub record-back : (r : Record) → marksFit r ≡ true → recordOf (attemptOf r) ≡ r
 unfolding recordOf attemptOf
 record-back r h =
     let f = fitting r h in
@@ -118,10 +103,10 @@ record-back r h =
       sym (eqb-true (r .unused) 0 (f .unused)),
     )
 
--- The record of an attempt with such counts and such an end is one that events take
+-- The record of what could be an attempt, with such an end, is one that events take
 
 abbrev pub RecordFits : Attempt → Type 0
-RecordFits a = (countsFit a ≡ true) × (markFits (markOf (a .end)) (markValue (a .end)) ≡ true)
+RecordFits a = (couldBeAttempt a ≡ true) × (markFits (markOf (a .end)) (markValue (a .end)) ≡ true)
 
 flag-small : (b : Bool) → leb (flag b) 1 ≡ true
 flag-small false = refl
@@ -129,22 +114,27 @@ flag-small true = refl
 
 pub is-record : (a : Attempt) → RecordFits a → isRecord (recordOf a) ≡ true
 unfolding isRecord recordOf
-is-record a f =
-    let t = both-true (leb (a .«table_len») maxTable) _ (f .0) in
-    let d = both-true (leb (a .«destination_len») maxID) _ (t .1) in
-    rw (t .0, d .0, d .1, flag-small (a .acted), flag-small (a .heard), f .1)
+is-record a f = rw (attempt-back a) (both (marks a (f .1)) (f .0))
+  where
+    both : {p q : Bool} → p ≡ true → q ≡ true → (p && q) ≡ true
+    both p q = rw (p, q)
+
+    marks : (a : Attempt) → markFits (markOf (a .end)) (markValue (a .end)) ≡ true → marksFit (recordOf a) ≡ true
+    marks a m = rw (flag-small (a .acted), flag-small (a .heard), m)
 
 -- the attempt of a record that events take
 pub record-fits : (r : Record) → isRecord r ≡ true → RecordFits (attemptOf r)
 unfolding attemptOf
-record-fits r h = (record-counts r h, end-whole (r .«end_mark») (r .«end_value») (fitting r h .mark) .fits)
+record-fits r h =
+    let parts = record-parts r h in
+    (parts .1, end-whole (r .«end_mark») (r .«end_value») (fitting r (parts .0) .mark) .fits)
 
 -- every event leaves such an attempt
 fits-kept : (a : Attempt) → RecordFits a → Keeps RecordFits a
 fits-kept a f =
     record {
       stays = λ n. f;
-      acts = λ v. f;
+      acts = λ v held. (passing-kept a (f .0) .acts v held, f .1);
       notes = f;
       closes = λ n byte. (f .0, byte);
       completes = λ v. (f .0, refl);
@@ -153,16 +143,29 @@ fits-kept a f =
 pub step-fits : (a : Attempt) (e : Event) (bytes : List ℕ) → RecordFits a → RecordFits (stepOf a e bytes .attempt)
 step-fits a e bytes f = step-keeps RecordFits a (fits-kept a f) e bytes
 
--- and so does every start, accepted or refused
-pub start-fits : (x : Input) → RecordFits (startOf x .attempt)
-unfolding startOf opened blank run
-start-fits x = go (isAccepted x) refl where
-  go : (b : Bool) → isAccepted x ≡ b → RecordFits (startOf x .attempt)
-  go true h =
-      let k = reachable-counts {a = startOf x .attempt} (record { input = x; accepted = h; events = []; reached = refl }) in
-      (counts-all (startOf x .attempt) (k .0) (k .1) (k .2), rw (start-accepted x h))
+-- and so does every start that is accepted
+pub start-fits : (x : Input) → isAccepted x ≡ true → RecordFits (startOf x .attempt)
+unfolding opened
+start-fits x h = (start-passes x h, rw (start-accepted x h))
+
+-- The counts of every start's record, accepted or refused
+pub start-counts : (x : Input) → countsFit (startOf x .attempt) ≡ true
+unfolding startOf blank
+start-counts x = go (isAccepted x) refl where
+  go : (b : Bool) → isAccepted x ≡ b → countsFit (startOf x .attempt) ≡ true
+  go true h = both-true (countsFit (startOf x .attempt)) _ (start-passes x h) .0
   go false h =
-      lowest-applies refusedStart (openedStart x) (λ (s : Start). RecordFits (s .attempt)) (λ n. (refl, refl)) (startRules x) h
+      lowest-applies refusedStart (openedStart x) (λ (s : Start). countsFit (s .attempt) ≡ true) (λ n. refl) (startRules x) h
+
+-- Zeroed memory and the record of a refused start are no attempt's
+
+pub zeroed-refused : isRecord zeroed ≡ false
+unfolding isRecord attemptOf elem
+zeroed-refused = refl
+
+pub blank-record-refused : isRecord (recordOf blank) ≡ false
+unfolding isRecord attemptOf recordOf blank elem
+blank-record-refused = refl
 
 -- One event, by its kind
 module _ (r : Record) (kind value : ℕ) (bytes : List ℕ) where
@@ -170,11 +173,31 @@ module _ (r : Record) (kind value : ℕ) (bytes : List ℕ) where
   unfolding stepRecord
   step-refused h = rw h
 
-  module _ (h : isRecord r ≡ true) where
-    pub step-known : {e : Event} → eventOf kind value ≡ some e → leftAfter (stepOf (attemptOf r) e bytes) ≡ stepRecord r kind value bytes
-    unfolding stepRecord
-    step-known k = rw (h, k)
+  pub step-known : isRecord r ≡ true → {e : Event} → eventOf kind value ≡ some e →
+      leftAfter (stepOf (attemptOf r) e bytes) ≡ stepRecord r kind value bytes
+  unfolding stepRecord
+  step-known h k = rw (h, k)
 
-    pub step-unknown : eventOf kind value ≡ none → asFound r ≡ stepRecord r kind value bytes
-    unfolding stepRecord
-    step-unknown k = rw (h, k)
+  pub step-unknown : eventOf kind value ≡ none → asFound r ≡ stepRecord r kind value bytes
+  unfolding stepRecord
+  step-unknown k = go (isRecord r) where
+    go : (b : Bool) → asFound r ≡ cond b (eventOn r bytes (eventOf kind value)) (asFound r)
+    go true = rw k
+    go false = refl
+
+  module _ (marks : marksFit r ≡ true) where
+    pub marks-record : {b : Bool} → couldBeAttempt (attemptOf r) ≡ b → isRecord r ≡ b
+    unfolding isRecord
+    marks-record h = rw marks h
+
+    -- the step for any record value, over the record
+    pub step-any-known : {e : Event} → eventOf kind value ≡ some e →
+        leftAfter (stepOfAny (attemptOf r) e bytes) ≡ stepRecord r kind value bytes
+    unfolding stepOfAny
+    step-any-known {e} k = go (couldBeAttempt (attemptOf r)) refl where
+      go : (b : Bool) → couldBeAttempt (attemptOf r) ≡ b →
+          leftAfter (cond b (stepOf (attemptOf r) e bytes) (unchanged (attemptOf r) notARecord)) ≡ stepRecord r kind value bytes
+      go true h = step-known (marks-record h) k
+      go false h =
+          ap (λ (x : Record). record { left = x; refusal = notARecord }) (record-back r marks) ∙
+          step-refused (marks-record h)

@@ -4,12 +4,13 @@ use mathlib.Core.Bool.{Bool, true, cond, _&&_}
 use mathlib.Core.List.{List, []}
 use mathlib.Core.Option.{Option, Option.none, Option.some}
 use lib.Dec.{eqb, leb}
+use lib.ListN.{replicate}
 use Rattle.versions.specs.Limits.{maxTable}
 use Rattle.information.specs.declared.Presence.the-variants.{Missing, Given}
 use Rattle.attempt.specs.Attempt.{listInPlaces, ownListOf}
 use Rattle.attempt.specs.Limits.{maxID}
 use Rattle.attempt.specs.Start.{Input, startOf}
-use Rattle.attempt.specs.Step.{After, stepOf}
+use Rattle.attempt.specs.Step.{After, stepOf, couldBeAttempt}
 use Rattle.attempt.specs.declared.Attempt.{Attempt}
 use Rattle.attempt.specs.declared.End.{End}
 use Rattle.attempt.specs.declared.End.the-variants.{Open, Completed, Closed}
@@ -37,14 +38,6 @@ markValue Open = 0
 markValue (Completed v) = v
 markValue (Closed n) = n
 
--- Counts, flags and marks of a record that an attempt has
-unfoldable pub isRecord : Record → Bool
-isRecord r =
-    leb (r .«table_len») maxTable &&
-    (leb (r .«destination_len») maxID &&
-    (leb (r .«source_len») maxID &&
-    (leb (r .acted) 1 && (leb (r .heard) 1 && (markFits (r .«end_mark») (r .«end_value») && eqb (r .unused) 0)))))
-
 -- The attempt of a record
 unfoldable pub attemptOf : Record → Attempt
 attemptOf r =
@@ -63,6 +56,16 @@ attemptOf r =
       end = endOf (r .«end_mark») (r .«end_value»);
     }
 
+-- Flags, end mark and unused word as the record of an attempt has them
+abbrev pub marksFit : Record → Bool
+marksFit r =
+    leb (r .acted) 1 && (leb (r .heard) 1 && (markFits (r .«end_mark») (r .«end_value») && eqb (r .unused) 0))
+
+-- What is judged of any record: its flags, its end mark, its unused word, its counts, and that its attempted version is
+-- in its table. That table, rows, IDs and Original Version are those of one start is not judged.
+unfoldable pub isRecord : Record → Bool
+isRecord r = marksFit r && couldBeAttempt (attemptOf r)
+
 -- The record of an attempt
 unfoldable pub recordOf : Attempt → Record
 recordOf a =
@@ -80,6 +83,26 @@ recordOf a =
       heard = flag (a .heard);
       «end_mark» = markOf (a .end);
       «end_value» = markValue (a .end);
+      unused = 0;
+    }
+
+-- Zeroed memory in a record's place
+abbrev pub zeroed : Record
+zeroed =
+    record {
+      rows = replicate maxTable 0;
+      table = replicate maxTable 0;
+      destination = replicate maxID 0;
+      source = replicate maxID 0;
+      «table_len» = 0;
+      «destination_len» = 0;
+      «source_len» = 0;
+      original = 0;
+      attempted = 0;
+      acted = 0;
+      heard = 0;
+      «end_mark» = 0;
+      «end_value» = 0;
       unused = 0;
     }
 

@@ -3,26 +3,27 @@ ghost use mathlib.Core.Bool.{true};
 ghost use mathlib.Core.Path.{_≡_};
 ghost use Rattle.attempt.specs.Step.{countsFit};
 ghost use Rattle.c_record.specs.Numbers.{flag};
-ghost use Rattle.c_record.specs.Records.{isRecord, markFits, attemptOf, recordOf, endOf, markOf, markValue};
+ghost use Rattle.c_record.specs.Records.{isRecord, marksFit, markFits, attemptOf, recordOf, endOf, markOf, markValue};
 use crate::Record;
 use attempt::Attempt;
 use attempt::End;
-use attempt::MAX_ID;
-use versions::MAX_TABLE;
+use client_step::could_be_attempt;
 
-// Whether counts, flags and marks are those that an attempt has. It refuses nothing.
+// Whether what is judged of a record is as an attempt has it: flags, end mark, unused word, counts, and that the
+// attempted version is in the table. It refuses nothing.
 pub fn is_record(held: Record) -> bool
     ensures { λ r. ⌜ r ≡ isRecord held ⌝ }
 {
-    if MAX_TABLE < held.table_len as usize {
+    if !marks_fit(held) {
         return false;
     }
-    if MAX_ID < held.destination_len as usize {
-        return false;
-    }
-    if MAX_ID < held.source_len as usize {
-        return false;
-    }
+    could_be_attempt(decode(held))
+}
+
+// Whether flags, end mark and unused word are as an attempt has them.
+pub(crate) fn marks_fit(held: Record) -> bool
+    ensures { λ r. ⌜ r ≡ marksFit held ⌝ }
+{
     if 1 < held.acted {
         return false;
     }
@@ -51,7 +52,7 @@ fn mark_fits(mark: u32, value: u32) -> bool
 }
 
 pub(crate) fn decode(held: Record) -> Attempt
-    requires { ⌜ isRecord held ≡ true ⌝ }
+    requires { ⌜ marksFit held ≡ true ⌝ }
     ensures { λ r. ⌜ r ≡ attemptOf held ⌝ }
 {
     let table = held.table;

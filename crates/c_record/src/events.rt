@@ -7,7 +7,7 @@ ghost use Rattle.c_record.specs.Verdicts.{actedNumber, heardNumber, mark
 use crate::Record;
 use crate::RecordAndRefusal;
 use crate::coding::decode;
-use crate::coding::is_record;
+use crate::coding::marks_fit;
 use attempt::Event;
 use attempt::NOT_A_RECORD;
 use client_step::Verdict;
@@ -43,11 +43,12 @@ pub fn step_record(held: Record, kind: u32, value: u32, bytes: &[u8]) -> RecordA
     }
 }
 
-// What one event does to any record: 255 for one that no attempt has, and for another kind.
+// What one event does to any record: 255 for one that no attempt has, and for another kind. What `judge` judges of a
+// record value is not tested twice.
 fn judge_record(held: Record, kind: u32, value: u32, bytes: &[u8]) -> Verdict
     ensures { λ r. ⌜ appliedRecord held r ≡ stepRecord held kind value (now (bytes .entry)) ⌝ }
 {
-    if !is_record(held) {
+    if !marks_fit(held) {
         return Verdict::Unchanged(NOT_A_RECORD);
     }
     if 3 < kind {

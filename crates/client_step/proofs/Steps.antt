@@ -9,7 +9,7 @@ use Rattle.refusals.proofs.Rules.{both-true}
 use Rattle.versions.specs.Limits.{maxTable}
 use Rattle.attempt.specs.Attempt.{isOpen, put}
 use Rattle.attempt.specs.Limits.{maxID, notARecord}
-use Rattle.attempt.specs.Step.{unchanged, after, Effect.notes, onProcessed, stepOf, stepOfAny, countsFit}
+use Rattle.attempt.specs.Step.{unchanged, after, Effect.notes, onProcessed, stepOf, stepOfAny, countsFit, couldBeAttempt}
 use Rattle.attempt.specs.declared.Attempt.{Attempt}
 use Rattle.attempt.specs.declared.End.the-variants.{Open}
 use Rattle.attempt.specs.declared.Event.{Event}
@@ -43,11 +43,11 @@ module _ (a : Attempt) where
       rw (lt-leb _ _ h, and-false (leb (a .«destination_len») maxID)) (and-false (leb (a .«table_len») maxTable))
 
 module _ (a : Attempt) (e : Event) (bytes : List ℕ) where
-  pub any-refused : countsFit a ≡ false → unchanged a notARecord ≡ stepOfAny a e bytes
+  pub any-refused : couldBeAttempt a ≡ false → unchanged a notARecord ≡ stepOfAny a e bytes
   unfolding stepOfAny
   any-refused h = rw h
 
-  pub any-accepted : countsFit a ≡ true → stepOf a e bytes ≡ stepOfAny a e bytes
+  pub any-accepted : couldBeAttempt a ≡ true → stepOf a e bytes ≡ stepOfAny a e bytes
   unfolding stepOfAny
   any-accepted h = rw h
 

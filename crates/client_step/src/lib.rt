@@ -3,7 +3,7 @@
 ghost use mathlib.Core.Bool.{true};
 ghost use mathlib.Core.Path.{_≡_};
 ghost use Rattle.attempt.specs.Events.{Reachable};
-ghost use Rattle.attempt.specs.Step.{shown, onProcessed, stepOf, stepOfAny, countsFit};
+ghost use Rattle.attempt.specs.Step.{shown, onProcessed, stepOf, stepOfAny, countsFit, couldBeAttempt};
 ghost use Rattle.client_step.specs.Verdicts.{applied};
 
 mod datagram; // a datagram, judged
@@ -22,6 +22,7 @@ use attempt::Stepped;
 use lists::Span;
 use refusals::Refusal;
 use versions::MAX_TABLE;
+use versions::table::contains;
 
 // What an event does to an attempt.
 pub enum Verdict {
@@ -63,8 +64,8 @@ pub fn step(attempt: Attempt, event: Event, bytes: &[u8]) -> Stepped
     apply(attempt, verdict)
 }
 
-// The step for any record value. One whose counts are not within its arrays is no record: it is refused with
-// NOT_A_RECORD and left as found. Refusals else as `step`'s.
+// The step for any record value. One that could not be an attempt's is refused with NOT_A_RECORD and left as found.
+// Refusals else as `step`'s.
 pub fn step_any(attempt: Attempt, event: Event, bytes: &[u8]) -> Stepped
     ensures { λ r. ⌜ shown r ≡ stepOfAny attempt event (now (bytes .entry)) ⌝ }
 {
@@ -76,16 +77,29 @@ pub fn step_any(attempt: Attempt, event: Event, bytes: &[u8]) -> Stepped
 pub fn judge(attempt: Attempt, event: Event, bytes: &[u8]) -> Verdict
     ensures { λ r. ⌜ applied attempt r ≡ stepOfAny attempt event (now (bytes .entry)) ⌝ }
 {
-    if MAX_TABLE < attempt.table_len {
-        return Verdict::Unchanged(NOT_A_RECORD);
-    }
-    if MAX_ID < attempt.destination_len {
-        return Verdict::Unchanged(NOT_A_RECORD);
-    }
-    if MAX_ID < attempt.source_len {
+    if !could_be_attempt(attempt) {
         return Verdict::Unchanged(NOT_A_RECORD);
     }
     judge_event(attempt, event, bytes)
+}
+
+// Whether a record value could be an attempt's: its counts are within its arrays, and its attempted version is in its
+// table. It refuses nothing.
+pub fn could_be_attempt(attempt: Attempt) -> bool
+    ensures { λ r. ⌜ r ≡ couldBeAttempt attempt ⌝ }
+{
+    if MAX_TABLE < attempt.table_len {
+        return false;
+    }
+    if MAX_ID < attempt.destination_len {
+        return false;
+    }
+    if MAX_ID < attempt.source_len {
+        return false;
+    }
+    let table = attempt.table;
+    let count = attempt.table_len;
+    contains(&table[..count], attempt.attempted)
 }
 
 // What an event does to a record whose counts are within its arrays.

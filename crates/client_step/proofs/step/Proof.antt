@@ -1,16 +1,17 @@
 -- `step` meets its contract: a reachable record's counts fit, and a step keeps it reachable.
 use borrow.Author.Needs.{needs}
 use mathlib.Core.Path.{_∙_}
-use Rattle.attempt.proofs.Keeps.{reachable-counts}
+use Rattle.refusals.proofs.Rules.{both-true}
+use Rattle.attempt.specs.Step.{countsFit}
+use Rattle.attempt.proofs.Keeps.{reachable-passes}
 use Rattle.attempt.proofs.Reaching.{reachable-shown}
-use Rattle.client_step.proofs.Steps.{counts-all}
 use Rattle.client_step.proofs.step.Statement.{statement}
 use Rattle.client_step.proofs.step.Tie as tie
 
 judge-event-requires : tie.Need-judge-event-requires
 judge-event-requires c κs =
-    let r = reachable-counts (c .before .pre) in
-    counts-all (c .before .args .attempt) (r .0) (r .1) (r .2)
+    let a = c .before .args .attempt in
+    both-true (countsFit a) _ (reachable-passes {a = a} (c .before .pre)) .0
 
 apply-requires : tie.Need-apply-requires
 apply-requires c κs = search needs

@@ -5,6 +5,7 @@ use borrow.Author.Needs.{needs}
 use borrow.Author.Tests.{not-true, not-false}
 use Rattle.attempt.specs.Attempt.{padded, ownListOf}
 use Rattle.c_record.specs.Records.{isRecord, ownRecord}
+use Rattle.c_record.proofs.Records.{record-parts}
 use Rattle.c_record.proofs.attempts.own_of.Statement.{statement}
 use Rattle.c_record.proofs.attempts.own_of.Tie as tie
 
@@ -21,7 +22,7 @@ returns c =
     (sym e, rw e)
 
 decode-requires : tie.Need-decode-requires
-decode-requires c κs = is-held c
+decode-requires c κs = record-parts _ (is-held c) .0
 
 own-list-requires : tie.Need-own-list-requires
 own-list-requires c κs = search needs

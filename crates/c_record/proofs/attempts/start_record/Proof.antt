@@ -4,7 +4,7 @@ use borrow.Author.Needs.{needs}
 use Rattle.attempt.specs.Start.{Start}
 use Rattle.c_record.specs.Numbers.{refusalOf}
 use Rattle.c_record.specs.Records.{Left, recordOf}
-use Rattle.c_record.proofs.Records.{start-fits}
+use Rattle.c_record.proofs.Records.{start-counts}
 use Rattle.c_record.proofs.attempts.start_record.Statement.{statement}
 use Rattle.c_record.proofs.attempts.start_record.Tie as tie
 
@@ -15,7 +15,7 @@ start-requires : tie.Need-start-requires
 start-requires c κs = search needs
 
 encode-requires : tie.Need-encode-requires
-encode-requires c κs = rw (ap (λ (s : Start). s .attempt) (c .before .start .ensures .0)) (start-fits _ .0)
+encode-requires c κs = rw (ap (λ (s : Start). s .attempt) (c .before .start .ensures .0)) (start-counts _)
 
 start-number-requires : tie.Need-start-number-requires
 start-number-requires c κs = search needs

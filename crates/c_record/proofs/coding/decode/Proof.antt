@@ -6,7 +6,9 @@ use Rattle.c_record.proofs.coding.decode.Statement.{statement}
 use Rattle.c_record.proofs.coding.decode.Tie as tie
 
 end-of-requires : tie.Need-end-of-requires
-end-of-requires c κs = fitting _ (c .before .before .before .before .pre) .mark
+end-of-requires c κs =
+    let s = c .before .before .before .before in
+    fitting (s .args .held) (s .pre) .mark
 
 cast-t7 : tie.Need-cast-t7
 cast-t7 c = search needs
