@@ -1,6 +1,6 @@
--- The record without enums loses nothing: what a start or an event leaves is again a record that events take, and
--- events over the C interface are the client's run. (That an attempt and a record come back from each other stands in
--- Records.antt.)
+-- The record without enums loses nothing: what an event leaves of a record that events take is one again, every event
+-- has a call, and the calls over the C interface are the client's run. (That an attempt and a record come back from
+-- each other stands in Records.antt.)
 use Prim.Native.Nat.{ℕ}
 use mathlib.Core.Bool.{true}
 use mathlib.Core.List.{List, [], _∷_}
@@ -13,9 +13,11 @@ use Rattle.attempt.specs.Step.{stepOf}
 use Rattle.attempt.specs.declared.Attempt.{Attempt}
 use Rattle.attempt.specs.declared.Event.{Event}
 use Rattle.attempt.specs.declared.Event.the-variants.{Datagram, PacketProcessed, Outcome}
+use Rattle.c_record.specs.Calls.{EventCall, runCalls, eventBefore, eventsOf}
 use Rattle.c_record.specs.Records.{Left, isRecord, attemptOf, recordOf, eventOf, eventOn, leftAfter, stepRecord, startRecord}
 use Rattle.c_record.specs.declared.Record.{Record}
-use Rattle.c_record.proofs.Records.{attempt-back, RecordFits, is-record, record-fits, step-fits, start-fits, step-known}
+use Rattle.c_record.proofs.Records.{attempt-back, RecordFits, is-record, record-fits, step-fits, start-fits}
+use Rattle.c_record.proofs.Records.{step-known, step-unknown}
 
 -- What an event leaves of a record is one, whatever the kind
 
@@ -30,7 +32,7 @@ pub event-leaves-record : (r : Record) (kind value : ℕ) (bytes : List ℕ) →
 unfolding stepRecord
 event-leaves-record r kind value bytes h = rw h (left-record r bytes (eventOf kind value) h)
 
--- The events over the C interface
+-- Every event has a call
 
 abbrev pub kindOf : Event → ℕ
 kindOf Datagram = 0
@@ -43,31 +45,42 @@ valueOf Datagram = 0
 valueOf PacketProcessed = 0
 valueOf (Outcome v p) = v
 
-event-back : (e : Event) → eventOf (kindOf e) (valueOf e) ≡ some e
+pub event-back : (e : Event) → eventOf (kindOf e) (valueOf e) ≡ some e
 unfolding eventOf
 event-back Datagram = refl
 event-back PacketProcessed = refl
 event-back (Outcome v Given) = refl
 event-back (Outcome v Missing) = refl
 
-unfoldable pub runRecord : Record → List Handed → Record
-runRecord r [] = r
-runRecord r (h ∷ hs) = runRecord (stepRecord r (kindOf (h .event)) (valueOf (h .event)) (h .bytes) .left) hs
+-- One call leaves the record of what its event leaves, and the record itself where there is none
 
-pub same-event : (a : Attempt) (e : Event) (bytes : List ℕ) → RecordFits a →
-    stepRecord (recordOf a) (kindOf e) (valueOf e) bytes ≡ leftAfter (stepOf a e bytes)
-same-event a e bytes f =
-    sym (step-known (recordOf a) (kindOf e) (valueOf e) bytes (is-record a f) (event-back e)) ∙
-    ap (λ (b : Attempt). leftAfter (stepOf b e bytes)) (attempt-back a)
+left-known : (a : Attempt) (kind value : ℕ) (bytes : List ℕ) (e : Event) → RecordFits a → eventOf kind value ≡ some e →
+    stepRecord (recordOf a) kind value bytes .left ≡ recordOf (stepOf a e bytes .attempt)
+left-known a kind value bytes e f k =
+    ap (λ (s : Left). s .left)
+    (sym (step-known (recordOf a) kind value bytes (is-record a f) k) ∙
+    ap (λ (b : Attempt). leftAfter (stepOf b e bytes)) (attempt-back a))
 
-pub same-run : (a : Attempt) (es : List Handed) → RecordFits a → runRecord (recordOf a) es ≡ recordOf (run a es)
-unfolding run runRecord
+left-unknown : (r : Record) (kind value : ℕ) (bytes : List ℕ) → eventOf kind value ≡ none →
+    stepRecord r kind value bytes .left ≡ r
+left-unknown r kind value bytes k = ap (λ (s : Left). s .left) (sym (step-unknown r kind value bytes k))
+
+pub same-run : (a : Attempt) (calls : List EventCall) → RecordFits a → runCalls (recordOf a) calls ≡ recordOf (run a (eventsOf calls))
+unfolding run runCalls eventsOf
 same-run a [] f = refl
-same-run a (e ∷ es) f =
-    ap (λ (s : Left). runRecord (s .left) es) (same-event a (e .event) (e .bytes) f) ∙
-    same-run (stepOf a (e .event) (e .bytes) .attempt) es (step-fits a (e .event) (e .bytes) f)
+same-run a (c ∷ calls) f = go (eventOf (c .kind) (c .value)) refl (λ b. same-run b calls)
+  where
+    go : (o : Option Event) → eventOf (c .kind) (c .value) ≡ o →
+        ((b : Attempt) → RecordFits b → runCalls (recordOf b) calls ≡ recordOf (run b (eventsOf calls))) →
+        runCalls (stepRecord (recordOf a) (c .kind) (c .value) (c .bytes) .left) calls ≡
+        recordOf (run a (eventBefore o (c .bytes) (eventsOf calls)))
+    go none k later =
+        ap (λ (r : Record). runCalls r calls) (left-unknown (recordOf a) (c .kind) (c .value) (c .bytes) k) ∙ later a f
+    go (some e) k later =
+        ap (λ (r : Record). runCalls r calls) (left-known a (c .kind) (c .value) (c .bytes) e f k) ∙
+        later (stepOf a e (c .bytes) .attempt) (step-fits a e (c .bytes) f)
 
 -- From an accepted start on: the records of the C interface are those of the client's attempt
-pub same-from-start : (x : Input) (es : List Handed) → isAccepted x ≡ true →
-    runRecord (startRecord x .left) es ≡ recordOf (run (startOf x .attempt) es)
-same-from-start x es h = same-run (startOf x .attempt) es (start-fits x h)
+pub same-from-start : (x : Input) (calls : List EventCall) → isAccepted x ≡ true →
+    runCalls (startRecord x .left) calls ≡ recordOf (run (startOf x .attempt) (eventsOf calls))
+same-from-start x calls h = same-run (startOf x .attempt) calls (start-fits x h)

@@ -1,0 +1,50 @@
+-- Lists of event calls on a record, as C makes them, and demand 3's terms read from them.
+use Prim.Native.Nat.{ℕ}
+use mathlib.Core.Bool.{Bool, true}
+use mathlib.Core.List.{List, [], _∷_}
+use mathlib.Core.Option.{Option, Option.none, Option.some}
+use mathlib.Core.Path.{_≡_}
+use lib.Dec.{eqb}
+use Rattle.versions.specs.Table.{elem}
+use Rattle.attempt.specs.Demand.{actedWith, Handshake, firstOutcome, VersionInformation, informationOf}
+use Rattle.attempt.specs.Events.{Handed}
+use Rattle.attempt.specs.Start.{Input, isAccepted}
+use Rattle.attempt.specs.declared.Event.{Event}
+use Rattle.c_record.specs.Records.{eventOf, stepRecord, startRecord}
+use Rattle.c_record.specs.declared.Record.{Record}
+
+-- One call: the kind of the event, the version in use of an outcome, and the bytes
+pub record EventCall : Type 0 where
+  pub kind : ℕ
+  pub value : ℕ
+  pub bytes : List ℕ
+
+-- The record after the calls, each on the record that the one before it left
+unfoldable pub runCalls : Record → List EventCall → Record
+runCalls r [] = r
+runCalls r (c ∷ calls) = runCalls (stepRecord r (c .kind) (c .value) (c .bytes) .left) calls
+
+-- The events of the calls; a call of an unknown kind is none
+abbrev pub eventBefore : Option Event → List ℕ → List Handed → List Handed
+eventBefore none bytes later = later
+eventBefore (some e) bytes later = record { event = e; bytes = bytes } ∷ later
+
+unfoldable pub eventsOf : List EventCall → List Handed
+eventsOf [] = []
+eventsOf (c ∷ calls) = eventBefore (eventOf (c .kind) (c .value)) (c .bytes) (eventsOf calls)
+
+-- "Has completed", read from the end mark of the record
+abbrev pub hasCompleted : Record → Bool
+hasCompleted r = eqb (r .«end_mark») 1
+
+-- A client that acted, completed, and completed against this Available list, which holds the version in use
+pub record RecordCompletedAgainst (available : List ℕ) (x : Input) (calls : List EventCall) (attempted : ℕ) : Type 0 where
+  pub accepted : isAccepted x ≡ true
+  pub acted : actedWith x (eventsOf calls) ≡ some attempted
+  pub completed : hasCompleted (runCalls (startRecord x .left) calls) ≡ true
+  pub handshake : Handshake
+  pub first : firstOutcome (eventsOf calls) ≡ some handshake
+  pub information : VersionInformation
+  pub read : informationOf attempted handshake ≡ some information
+  pub against : information .available ≡ available
+  pub holdsVersionInUse : elem (handshake .inUse) available ≡ true
