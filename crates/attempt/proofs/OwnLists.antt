@@ -1,10 +1,11 @@
 -- The own list that the record keeps as words is document 01's.
-use Prim.Native.Nat.{ℕ, _+_, _*_, _/_, _%_}
+use Prim.Native.Nat.{ℕ, _+_, _*_, _/_, _%_, _≤_}
 use mathlib.Core.Bool.{Bool, true, false, cond, _||_, or-true, false≢true}
 use mathlib.Core.List.{List, [], _∷_, _++_}
 use mathlib.Core.Path.{_≡_, refl, ap}
 use native.Mathlib.Omega.{arith}
 use lib.Dec.{eqb}
+use lib.ListN.{length}
 use borrow.Author.Tests.{eqb-true}
 use Rattle.versions.specs.Table.{elem}
 use Rattle.attempt.specs.OwnList.{mayBeAnswered, bit, keepIf, ownList, wordFor, rowsFor, members, wordOf}
@@ -40,6 +41,17 @@ members-held word (t ∷ table) v h = go (eqb (word % 2) 1) h (members-held (wor
         (elem v (members (word / 2) table) ≡ true → elem v table ≡ true) → (eqb t v || elem v table) ≡ true
     go true h ih = either (eqb t v) _ _ h ih
     go false h ih = rw (ih h) (or-true (eqb t v))
+
+-- and no more than the table has
+pub length-members : (word : ℕ) (table : List ℕ) → length (members word table) ≤ length table
+unfolding members
+length-members word [] = omega arith
+length-members word (t ∷ table) = go (eqb (word % 2) 1) (length-members (word / 2) table)
+  where
+    go : (b : Bool) → length (members (word / 2) table) ≤ length table →
+        length (keepIf b t (members (word / 2) table)) ≤ length (t ∷ table)
+    go true h = omega (arith, h)
+    go false h = omega (arith, h)
 
 -- the word of a table entry is the one that was made for it
 pub word-of-row : (vs table : List ℕ) (pairs : List (List ℕ)) (rest : List ℕ) (v : ℕ) → elem v vs ≡ true →

@@ -4,6 +4,7 @@ use mathlib.Core.Bool.{cond}
 use mathlib.Core.List.{List, [], _∷_}
 use mathlib.Core.Option.{Option, Option.none, Option.some}
 use lib.Dec.{eqb}
+use Rattle.refusals.specs.Close.{closeOf}
 use Rattle.refusals.specs.Reply.{Reply, Reply.refused, Reply.answered}
 use Rattle.refusals.specs.declared.Call.{Call}
 use Rattle.refusals.specs.declared.Call.the-variants.{Reading, Writing}
@@ -16,7 +17,10 @@ use Rattle.information.specs.declared.Presence.the-variants.{Missing, Given}
 use Rattle.information.specs.declared.Sender.{Sender}
 use Rattle.information.specs.declared.Sender.the-variants.{Client, Server}
 use Rattle.server.specs.FirstFlight.{Act, Act.negotiate, Act.use-version, decide}
+use Rattle.attempt.specs.Attempt.{ownOf}
 use Rattle.c_record.specs.Numbers.{notValid, refusalOf}
+use Rattle.c_record.specs.Records.{isRecord, attemptOf}
+use Rattle.c_record.specs.declared.Record.{Record}
 
 abbrev pub closeNumber : Close → ℕ
 closeNumber Nothing = 0
@@ -77,9 +81,18 @@ senderOf n = named Client Server n
 abbrev pub presenceOf : ℕ → Option Presence
 presenceOf n = named Missing Given n
 
--- Kinds of call: 0 one that reads (a reader, the server's choice, an event), else a writer
-abbrev pub callOf : ℕ → Call
-callOf n = cond (eqb n 0) Reading Writing
+-- Kinds of call: 0 one that reads (a reader, the server's choice, an event), 1 a writer
+abbrev pub callOf : ℕ → Option Call
+callOf n = named Reading Writing n
+
+-- The code for an unknown kind of call: no code has this number
+abbrev pub unknownCall : ℕ
+unknownCall = 0xffffffffffffffff
+
+-- The close code by a refusal's number and the kind of call
+abbrev pub codeFor : ℕ → Option Call → ℕ
+codeFor refusal none = unknownCall
+codeFor refusal (some call) = closeNumber (closeOf refusal call)
 
 -- An answer for a kind that is known, 255 for one that is not
 abbrev pub forKnown : {K A : Type 0} → (K → Reply A) → Option K → Reply A
@@ -97,6 +110,10 @@ informationToWriteOf sender chosen available room =
 abbrev pub decideOn : List ℕ → List ℕ → List (List ℕ) → ℕ → ℕ → List ℕ → Reply Act
 decideOn readable accepted pairs version presence information =
     forKnown (λ p. decide readable accepted pairs version p information) (presenceOf presence)
+
+-- The own list of a record's attempt, 255 for a record that no attempt has
+abbrev pub ownAnswer : Record → Reply (List ℕ)
+ownAnswer r = cond (isRecord r) (answered (ownOf (attemptOf r))) (refused notValid Nothing)
 
 abbrev pub chosenIn : Found → ℕ
 chosenIn found = found .chosen

@@ -1,10 +1,11 @@
 // The library as C sees it: numbers, slices and one enum-free record. A refusal crosses as its number, 0 is
 // none; other results go through lent numbers and buffers, which a refusal leaves as found. No function
-// requires anything: an unknown kind, mark or flag, or an impossible count, gets 255 and leaves all as found.
+// requires anything: an unknown kind, or a record that no attempt has, gets 255 and leaves all as found.
+ghost use mathlib.Core.Option.{Option.some};
 ghost use mathlib.Core.Path.{_≡_};
-ghost use Rattle.refusals.specs.Close.{closeOf};
+ghost use Prim.Native.Nat.{_≤_};
 ghost use Rattle.c_interface.specs.Layout.{interfaceVersion};
-ghost use Rattle.c_interface.specs.Numbers.{closeNumber, callOf};
+ghost use Rattle.c_interface.specs.Numbers.{closeNumber, callOf, codeFor};
 
 pub mod attempts; // the attempt: start, events, own list
 pub mod choices; // tables, pairs and choices
@@ -17,9 +18,11 @@ use refusals::Refusal;
 use versions::MAX_TABLE;
 
 // The version of this interface; it changes with every function or record that changes.
-pub const INTERFACE_VERSION: u32 = 1;
+pub const INTERFACE_VERSION: u32 = 2;
 // The size of the record in bytes.
 pub const RECORD_SIZE: usize = 12 * MAX_TABLE + 2 * MAX_ID + 40;
+// The close code that is none, for an unknown kind of call.
+pub const UNKNOWN_CALL: u64 = 0xffffffffffffffff;
 
 #[no_mangle]
 pub extern "C" fn qv_interface_version() -> u32
@@ -28,16 +31,42 @@ pub extern "C" fn qv_interface_version() -> u32
     INTERFACE_VERSION
 }
 
-// The close code of a refusal, 0 where there is none: `call` is 0 for what a reader, the server's choice or an
-// event refused, any other number for what a writer refused, which closes nothing.
+// The same under a name that has the number: a program that was compiled for another interface does not link. The name
+// changes with INTERFACE_VERSION.
 #[no_mangle]
-pub extern "C" fn qv_close_code(refusal: u8, call: u32) -> u64
-    ensures { λ r. ⌜ r ≡ closeNumber (closeOf refusal (callOf call)) ⌝ }
+pub extern "C" fn qv_interface_2() -> u32
+    ensures { λ r. ⌜ r ≡ interfaceVersion ⌝ }
 {
-    if call == 0 {
-        return code_number(refusals::close_code(Refusal(refusal), Call::Reading));
+    INTERFACE_VERSION
+}
+
+// The close code of a refusal, 0 where there is none: `call` is 0 for what a reader, the server's choice or an
+// event refused, 1 for what a writer refused, which closes nothing; another kind of call gets UNKNOWN_CALL.
+#[no_mangle]
+pub extern "C" fn qv_close_code(refusal: u32, call: u32) -> u64
+    ensures { λ r. ⌜ r ≡ codeFor refusal (callOf call) ⌝ }
+{
+    if 1 < call {
+        return UNKNOWN_CALL;
     }
-    code_number(refusals::close_code(Refusal(refusal), Call::Writing))
+    if 255 < refusal {
+        return 0;
+    }
+    code_number(refusals::close_code(
+        Refusal(refusal as u8),
+        call_of(call),
+    ))
+}
+
+// The kind of a call, by a number.
+fn call_of(number: u32) -> Call
+    requires { ⌜ number ≤ 1 ⌝ }
+    ensures { λ r. ⌜ some r ≡ callOf number ⌝ }
+{
+    if number == 0 {
+        return Call::Reading;
+    }
+    Call::Writing
 }
 
 // A close code as a number: 0 where there is none.

@@ -1,14 +1,15 @@
 -- The table's close codes by ranges of numbers: one test that antt computes over all 256 values of a byte.
 use Prim.Native.Nat.{ℕ, zero, suc, _<_}
 use mathlib.Core.Bool.{Bool, true, false, cond, _&&_}
+use mathlib.Core.List.{List, [], _∷_}
 use mathlib.Core.Path.{_≡_, refl, ap}
 use lib.Dec.{leb, ltb, eqb}
-use borrow.Author.Tests.{eqb-true}
+use borrow.Author.Tests.{eqb-true, leb-true, ne-eqb}
 use native.Mathlib.Nat.{not-suc-le-zero}
 use native.Mathlib.Decide.{decLt}
 use native.Mathlib.Omega.{arith}
 use Rattle.refusals.proofs.Rules.{both-true}
-use Rattle.refusals.specs.Table.{table}
+use Rattle.refusals.specs.Table.{Row, Row.row, table}
 use Rattle.refusals.specs.Close.{codeIn}
 use Rattle.refusals.specs.declared.Close.{Close}
 use Rattle.refusals.specs.declared.Close.the-variants.{Nothing, With}
@@ -55,3 +56,20 @@ agree n = same (codeIn table n) (ranged n)
 pub by-ranges : (n : ℕ) → n < 256 → codeIn table n ≡ ranged n
 unfolding everyBelow same agree codeIn table
 by-ranges n h = same-eq (codeIn table n) (ranged n) (at-each agree 256 refl n h)
+
+-- No number over a byte is in the table, so none has a code
+bytesOnly : List Row → Bool
+bytesOnly [] = true
+bytesOnly (row m c ∷ rows) = leb m 255 && bytesOnly rows
+
+none-over : (rows : List Row) (n : ℕ) → bytesOnly rows ≡ true → 255 < n → codeIn rows n ≡ Nothing
+unfolding bytesOnly codeIn
+none-over [] n h l = refl
+none-over (row m c ∷ rows) n h l =
+    let small = both-true (leb m 255) _ h in
+    let byte = leb-true m 255 (small .0) in
+    rw (ne-eqb n m (λ e. omega (arith, byte, l, e))) (none-over rows n (small .1) l)
+
+pub over-a-byte : (n : ℕ) → 255 < n → codeIn table n ≡ Nothing
+unfolding bytesOnly table
+over-a-byte n l = none-over table n refl l
