@@ -106,6 +106,9 @@ not-broken : {accepted : Bool} (broken : Bool) → (broken ≡ true → accepted
 not-broken true refuses h = absurd (false≢true (sym (refuses refl) ∙ h))
 not-broken false refuses h = refl
 
+pub start-keeps : (x : Input) → isAccepted x ≡ true → tableKeepsRule (x .table) ≡ true
+start-keeps x h = not-false _ (not-broken (not (tableKeepsRule (x .table))) (λ e. simp (e, and-false)) h)
+
 -- Each count is within its array, and a table has an entry
 abbrev Counted : Attempt → Type 0
 Counted a =
@@ -118,10 +121,9 @@ counts-kept a c =
 opened-counts : (x : Input) → isAccepted x ≡ true → Counted (opened x)
 unfolding opened
 opened-counts x h =
-    let table = not-broken (not (tableKeepsRule (x .table))) (λ e. simp (e, and-false)) h in
     let destination = not-broken (ltb maxID (length (x .destination))) (λ e. simp (e, and-false)) h in
     let source = not-broken (ltb maxID (length (x .source))) (λ e. simp (e, or-true, and-false)) h in
-    let counts = table-counts (x .table) (not-false _ table) in
+    let counts = table-counts (x .table) (start-keeps x h) in
     (counts .0, counts .1, ltb-false _ _ destination, ltb-false _ _ source)
 
 every-count : (a : Attempt) → Reachable a → Counted a

@@ -1,3 +1,4 @@
+pub mod Chosen
 pub mod Demand3
 pub mod Injective
 pub mod Keeps

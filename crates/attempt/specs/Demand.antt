@@ -40,6 +40,16 @@ unfoldable pub actedWith : Input → List Handed → Option ℕ
 actedWith x [] = none
 actedWith x (e ∷ es) = actedAt x (e .event) (e .bytes) (actedWith x es)
 
+-- That packet, whatever it lists: "the first datagram that fits", where it "comes before any heard or outcome"
+abbrev pub fittingAt : Input → Event → List ℕ → Option (List ℕ) → Option (List ℕ)
+fittingAt x Datagram datagram later = cond (fits x datagram) (some datagram) later
+fittingAt x PacketProcessed bytes later = none
+fittingAt x (Outcome inUse presence) bytes later = none
+
+unfoldable pub firstFitting : Input → List Handed → Option (List ℕ)
+firstFitting x [] = none
+firstFitting x (e ∷ es) = fittingAt x (e .event) (e .bytes) (firstFitting x es)
+
 -- An outcome: "the version in use and Version Information, or .. that it is missing"
 pub record Handshake : Type 0 where
   pub inUse : ℕ
