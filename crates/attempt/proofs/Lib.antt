@@ -7,5 +7,6 @@ pub mod Padded
 pub mod Phases
 pub mod PlainData
 pub mod Reaching
+pub mod Rising
 pub mod Walks
 pub mod Worked

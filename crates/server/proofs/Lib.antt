@@ -1,3 +1,4 @@
 pub mod Flights
 pub mod Injective
+pub mod Rising
 pub mod Worked
