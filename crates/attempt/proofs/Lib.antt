@@ -7,6 +7,7 @@ pub mod Padded
 pub mod Phases
 pub mod PlainData
 pub mod Reaching
+pub mod Repeated
 pub mod Rising
 pub mod Walks
 pub mod Worked
