@@ -139,7 +139,7 @@ added t l u h = preferred-by-membership t (l ++ (u ∷ [])) l (λ v held. elem-a
     go v false e = or-false (elem v l)
 
 -- what such a client attempted is what its table chooses from the list that it completed against
-chosen-from : (l : List ℕ) (x : Input) (events : List Handed) (v : ℕ) → CompletedAgainst l x events v → preferred (x .table) l ≡ some v
+pub chosen-from : (l : List ℕ) (x : Input) (events : List Handed) (v : ℕ) → CompletedAgainst l x events v → preferred (x .table) l ≡ some v
 chosen-from l x events v c =
     let g = demand-3 x events v (c .accepted) (c .acted) .0 (c .completed) in
     let h : g .0 ≡ c .handshake = Option·some-injective _ _ (sym (g .1) ∙ c .first) in

@@ -106,6 +106,9 @@ not-broken : {accepted : Bool} (broken : Bool) → (broken ≡ true → accepted
 not-broken true refuses h = absurd (false≢true (sym (refuses refl) ∙ h))
 not-broken false refuses h = refl
 
+pub start-keeps : (x : Input) → isAccepted x ≡ true → tableKeepsRule (x .table) ≡ true
+start-keeps x h = not-false _ (not-broken (not (tableKeepsRule (x .table))) (λ e. simp (e, and-false)) h)
+
 -- What is judged of any record value holds of every attempt
 
 abbrev Passing : Attempt → Type 0
@@ -125,11 +128,10 @@ passing-kept a c =
 opened-passes : (x : Input) → isAccepted x ≡ true → Passing (opened x)
 unfolding opened
 opened-passes x h =
-    let table = not-broken (not (tableKeepsRule (x .table))) (λ e. simp (e, and-false)) h in
     let original = not-broken (not (elem (x .original) (x .table))) (λ e. simp (e, and-false)) h in
     let destination = not-broken (ltb maxID (length (x .destination))) (λ e. simp (e, and-false)) h in
     let source = not-broken (ltb maxID (length (x .source))) (λ e. simp (e, or-true, and-false)) h in
-    let counts = table-counts (x .table) (not-false _ table) in
+    let counts = table-counts (x .table) (start-keeps x h) in
     fits (counts .1) (ltb-false _ _ destination) (ltb-false _ _ source) (not-false _ original)
   where
     fits : length (x .table) ≤ maxTable → length (x .destination) ≤ maxID → length (x .source) ≤ maxID →

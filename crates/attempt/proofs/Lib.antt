@@ -1,3 +1,4 @@
+pub mod Chosen
 pub mod Completing
 pub mod Demand3
 pub mod Injective
@@ -7,5 +8,7 @@ pub mod Padded
 pub mod Phases
 pub mod PlainData
 pub mod Reaching
+pub mod Repeated
+pub mod Rising
 pub mod Walks
 pub mod Worked

@@ -18,10 +18,10 @@ use Rattle.invariants.specs.Header.{isReadableNegotiation, listed}
 use Rattle.information.specs.Information.{chosenOf, availableOf, formRules}
 use Rattle.information.specs.declared.Presence.{Presence}
 use Rattle.information.specs.declared.Presence.the-variants.{Missing, Given}
-use Rattle.attempt.specs.Attempt.{padded, tableOf, destinationOf, sourceOf, ownFor, ownOf, isOpen, isCompleted, put}
+use Rattle.attempt.specs.Attempt.{padded, tableOf, ownOf, isOpen, isCompleted, put}
 use Rattle.attempt.specs.Demand.{fits, actedAt, actedWith, VersionInformation, standIn, informationRead}
 use Rattle.attempt.specs.Events.{Handed, run}
-use Rattle.attempt.specs.Start.{Input, ourList, opened}
+use Rattle.attempt.specs.Start.{Input, Reads, ourList, opened}
 use Rattle.attempt.specs.Step.{After, datagramRules, outcomeRules, missingRules, informationRules, isLate, actOn, picks}
 use Rattle.attempt.specs.Step.{unchanged, closed, completed, stepOf, onDatagram, onProcessed, onOutcome}
 use Rattle.attempt.specs.declared.Attempt.{Attempt}
@@ -30,14 +30,6 @@ use Rattle.attempt.specs.declared.End.the-variants as end
 use Rattle.attempt.specs.declared.Event.{Event}
 use Rattle.attempt.specs.declared.Event.the-variants.{Datagram, PacketProcessed, Outcome}
 use Rattle.attempt.proofs.OwnLists.{members-word, word-of-row}
-
--- What is read of the start in a record
-pub record Reads (x : Input) (a : Attempt) : Type 0 where
-  pub table : tableOf a ≡ x .table
-  pub destination : destinationOf a ≡ x .destination
-  pub source : sourceOf a ≡ x .source
-  pub original : a .original ≡ x .original
-  pub own : (v : ℕ) → elem v (x .table) ≡ true → ownFor a v ≡ ourList x v
 
 pub opened-reads : (x : Input) → Reads x (opened x)
 unfolding opened padded

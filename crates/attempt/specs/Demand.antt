@@ -17,6 +17,7 @@ use Rattle.attempt.specs.Attempt.{isCompleted}
 use Rattle.attempt.specs.Events.{Handed, run}
 use Rattle.attempt.specs.Start.{Input, ourList, isAccepted, startOf}
 use Rattle.attempt.specs.Step.{otherConnection}
+use Rattle.attempt.specs.declared.Attempt.{Attempt}
 use Rattle.attempt.specs.declared.Event.{Event}
 use Rattle.attempt.specs.declared.Event.the-variants.{Datagram, PacketProcessed, Outcome}
 
@@ -39,6 +40,16 @@ actedAt x (Outcome inUse presence) bytes later = none
 unfoldable pub actedWith : Input → List Handed → Option ℕ
 actedWith x [] = none
 actedWith x (e ∷ es) = actedAt x (e .event) (e .bytes) (actedWith x es)
+
+-- That packet, whatever it lists: "the first datagram that fits", where it "comes before any heard or outcome"
+abbrev pub fittingAt : Input → Event → List ℕ → Option (List ℕ) → Option (List ℕ)
+fittingAt x Datagram datagram later = cond (fits x datagram) (some datagram) later
+fittingAt x PacketProcessed bytes later = none
+fittingAt x (Outcome inUse presence) bytes later = none
+
+unfoldable pub firstFitting : Input → List Handed → Option (List ℕ)
+firstFitting x [] = none
+firstFitting x (e ∷ es) = fittingAt x (e .event) (e .bytes) (firstFitting x es)
 
 -- An outcome: "the version in use and Version Information, or .. that it is missing"
 pub record Handshake : Type 0 where
@@ -86,14 +97,19 @@ pub record Good (x : Input) (attempted : ℕ) (h : Handshake) : Type 0 where
   pub wouldChoose : preferred (x .table) (information .available ++ (h .inUse ∷ [])) ≡ some attempted
 
 -- A client that acted, completed, and "completed against" this Available list, which holds the version in use. "The
--- list completed against is the first outcome's Available, or its stand-in's."
-pub record CompletedAgainst (available : List ℕ) (x : Input) (events : List Handed) (attempted : ℕ) : Type 0 where
+-- list completed against is the first outcome's Available, or its stand-in's." "Has completed" is read from the end
+-- mark of a record.
+pub record CompletedBy (left : Attempt) (available : List ℕ) (x : Input) (events : List Handed) (attempted : ℕ) : Type 0 where
   pub accepted : isAccepted x ≡ true
   pub acted : actedWith x events ≡ some attempted
-  pub completed : isCompleted (run (startOf x .attempt) events .end) ≡ true
+  pub completed : isCompleted (left .end) ≡ true
   pub handshake : Handshake
   pub first : firstOutcome events ≡ some handshake
   pub information : VersionInformation
   pub read : informationOf attempted handshake ≡ some information
   pub against : information .available ≡ available
   pub holdsVersionInUse : elem (handshake .inUse) available ≡ true
+
+-- The same by the record that the steps hand back
+abbrev pub CompletedAgainst : List ℕ → Input → List Handed → ℕ → Type 0
+CompletedAgainst available x events attempted = CompletedBy (run (startOf x .attempt) events) available x events attempted

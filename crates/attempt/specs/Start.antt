@@ -1,7 +1,8 @@
 -- The start of an attempt.
 use Prim.Native.Nat.{ℕ}
-use mathlib.Core.Bool.{Bool, false, not, _||_}
+use mathlib.Core.Bool.{Bool, true, false, not, _||_}
 use mathlib.Core.List.{List, [], _∷_}
+use mathlib.Core.Path.{_≡_}
 use lib.Dec.{ltb}
 use lib.ListN.{length, replicate}
 use Rattle.refusals.specs.Reply.{Reply, Reply.answered, refuse}
@@ -10,7 +11,7 @@ use Rattle.refusals.specs.declared.Call.the-variants.{Reading}
 use Rattle.versions.specs.Limits.{maxTable}
 use Rattle.versions.specs.Pairs.{pairsKeepRule}
 use Rattle.versions.specs.Table.{elem, tableKeepsRule}
-use Rattle.attempt.specs.Attempt.{padded}
+use Rattle.attempt.specs.Attempt.{padded, tableOf, destinationOf, sourceOf, ownFor}
 use Rattle.attempt.specs.Limits.{maxID}
 use Rattle.attempt.specs.OwnList.{ownList, rowsFor}
 use Rattle.attempt.specs.declared.Attempt.{Attempt}
@@ -63,6 +64,14 @@ opened x =
       heard = false;
       end = Open;
     }
+
+-- What is read of the start in a record: that of the start, and, as no event changes it, each one after it
+pub record Reads (x : Input) (a : Attempt) : Type 0 where
+  pub table : tableOf a ≡ x .table
+  pub destination : destinationOf a ≡ x .destination
+  pub source : sourceOf a ≡ x .source
+  pub original : a .original ≡ x .original
+  pub own : (v : ℕ) → elem v (x .table) ≡ true → ownFor a v ≡ ourList x v
 
 -- The record that a refused start hands back. It is no attempt: no table is empty, and no attempt is closed with 0.
 unfoldable pub blank : Attempt

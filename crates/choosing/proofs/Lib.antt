@@ -1,4 +1,5 @@
 pub mod Chosen
 pub mod Injective
 pub mod Laws
+pub mod Rising
 pub mod Worked

@@ -3,6 +3,7 @@
 use Prim.Native.Nat.{ℕ}
 use mathlib.Core.Bool.{true}
 use mathlib.Core.List.{List, [], _∷_}
+use mathlib.Core.Option.{Option, Option.none, Option.some}
 use mathlib.Core.Path.{_≡_}
 use Rattle.refusals.specs.Reply.{Reply, Reply.refused, Reply.answered}
 use Rattle.versions.specs.Table.{elem}
@@ -12,6 +13,11 @@ use Rattle.versions.specs.Table.{elem}
 abbrev pub choiceList : Reply ℕ → List ℕ
 choiceList (refused n c) = []
 choiceList (answered v) = v ∷ []
+
+-- The version that a choice answered, or none where it refused
+abbrev pub versionChosen : Reply ℕ → Option ℕ
+versionChosen (refused n c) = none
+versionChosen (answered v) = some v
 
 -- Two lists hold the same entries of the table, whatever their order and whatever else they hold
 abbrev pub SameHeld : List ℕ → List ℕ → List ℕ → Type 0

@@ -6,12 +6,12 @@ use mathlib.Core.Logic.{_↔_}
 use mathlib.Core.Option.{Option.some}
 use mathlib.Core.Path.{_≡_, refl, sym, subst, ap, _∙_}
 use Rattle.attempt.specs.Attempt.{isCompleted}
-use Rattle.attempt.specs.Demand.{Good, Handshake, actedWith, firstOutcome}
+use Rattle.attempt.specs.Demand.{CompletedBy, Good, Handshake, actedWith, firstOutcome}
 use Rattle.attempt.specs.Events.{Handed, run}
 use Rattle.attempt.specs.Start.{Input, isAccepted, startOf}
 use Rattle.attempt.specs.Step.{stepOf}
 use Rattle.attempt.specs.declared.Attempt.{Attempt}
-use Rattle.attempt.proofs.Demand3.{demand-3}
+use Rattle.attempt.proofs.Demand3.{demand-3, two-clients}
 use Rattle.client_in_place.specs.Events.{LeftByAll}
 
 pub in-place-run : (a : Attempt) (events : List Handed) (left : Attempt) → LeftByAll a events left → left ≡ run a events
@@ -38,3 +38,15 @@ demand-3-in-place x events v left accepted acted all =
     subst
     (λ (a : Attempt). (isCompleted (a .end) ≡ true) ↔ ((h : Handshake) × (firstOutcome events ≡ some h) × Good x v h))
     (sym (in-place-run (startOf x .attempt) events left all)) (demand-3 x events v accepted acted)
+
+pub two-clients-in-place : (available : List ℕ) (x y : Input) (events others : List Handed) (left right : Attempt) (v w : ℕ) →
+    x .table ≡ y .table →  -- two such clients with one table
+    LeftByAll (startOf x .attempt) events left →  -- by the records that lie there
+    LeftByAll (startOf y .attempt) others right →
+    CompletedBy left available x events v →  -- both completed against the same Available list,
+    CompletedBy right available y others w →  -- and it holds the version in use at each:
+    v ≡ w  -- they attempted the same version
+two-clients-in-place l x y events others left right v w same all others-all c d =
+    two-clients l x y events others v w same
+    (subst (λ (a : Attempt). CompletedBy a l x events v) (in-place-run (startOf x .attempt) events left all) c)
+    (subst (λ (a : Attempt). CompletedBy a l y others w) (in-place-run (startOf y .attempt) others right others-all) d)

@@ -7,21 +7,15 @@ use mathlib.Core.Path.{_≡_, sym, ap, _∙_}
 use native.Mathlib.Omega.{arith}
 use lib.ListN.{length, drop, length-drop}
 use Rattle.refusals.specs.Reply.{Reply.answered}
-use Rattle.lists.specs.Wire.{entries, listBytes, versionBytes}
-use Rattle.lists.proofs.Entries.{allBelow, entries-listBytes, entries-step, length-entries, listBytes-entries, number-bytesOf}
+use Rattle.lists.specs.Wire.{allBelow, entries, listBytes, versionBytes}
+use Rattle.lists.proofs.Entries.{entries-listBytes, entries-step, length-entries, listBytes-entries, number-bytesOf}
 use Rattle.versions.proofs.Lists.{part-rest}
 use Rattle.information.specs.Information.{Found, chosenOf, availableOf, foundIn, versionsIn, readInformation, informationBytes, informationToWrite}
+use Rattle.information.specs.Laws.{ReadAs}
 use Rattle.information.specs.Limits.{maxInformation}
 use Rattle.information.specs.declared.Sender.{Sender}
 use Rattle.information.proofs.Bytes.{length-information}
 use Rattle.information.proofs.Kept.{ReadKept, read-kept, read-answers, write-kept, write-answers}
-
--- The bytes from a sender are read, as this Chosen Version and these Available Versions
-pub record ReadAs (sender : Sender) (bytes : List ℕ) (chosen : ℕ) (available : List ℕ) : Type 0 where
-  pub found : Found
-  pub reads : readInformation sender bytes ≡ answered found
-  pub same-chosen : found .chosen ≡ chosen
-  pub same-available : versionsIn bytes (found .available) ≡ available
 
 -- The versions where the reader finds them are all that lies behind the Chosen Version
 versions-found : (bytes : List ℕ) → versionsIn bytes (foundIn bytes .available) ≡ availableOf bytes

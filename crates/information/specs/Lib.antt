@@ -1,2 +1,3 @@
 pub mod Information
+pub mod Laws
 pub mod Limits

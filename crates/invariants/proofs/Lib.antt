@@ -1,4 +1,5 @@
 pub mod Headers
 pub mod Injective
 pub mod Negotiations
+pub mod Rising
 pub mod WorkedHeaders

@@ -12,7 +12,7 @@ use lib.ListN.{length, take, drop, getD, set, length-drop}
 use lib.Seq.{getD-drop, drop-drop, take-suc, take-length, take-at, drop-at, length-take-le, sets-eq}
 use borrow.Author.Tests.{ltb-true, lt-ltb, le-leb, lt-leb, eq-eqb, ne-eqb}
 use Rattle.versions.specs.Table.{elem}
-use Rattle.lists.specs.Wire.{number, numberAt, versionBytes, entries, bytesOf, listBytes, entryAt, afterPut}
+use Rattle.lists.specs.Wire.{number, numberAt, versionBytes, entries, bytesOf, listBytes, allBelow, entryAt, afterPut}
 
 -- ---- the entries by place
 
@@ -116,10 +116,6 @@ listBytes-append [] ys = refl
 listBytes-append (x ∷ xs) ys = ap (λ (l : List ℕ). bytesOf x ++ l) (listBytes-append xs ys)
 
 -- ---- every number of a list is below a bound
-
-unfoldable pub allBelow : ℕ → List ℕ → Bool
-allBelow bound [] = true
-allBelow bound (x ∷ xs) = ltb x bound && allBelow bound xs
 
 both : (a b : Bool) → (a && b) ≡ true → (a ≡ true) × (b ≡ true)
 both true b e = (refl, e)

@@ -1,10 +1,10 @@
 -- Versions on the wire. Document 01: "Numbers are big endian", a version is 4 bytes, a list of versions is its
 -- entries one after the other.
 use Prim.Native.Nat.{ℕ, zero, suc, _+_, _*_, _/_, _%_}
-use mathlib.Core.Bool.{cond}
+use mathlib.Core.Bool.{Bool, true, cond, _&&_}
 use mathlib.Core.List.{List, [], _∷_, _++_}
 use mathlib.Core.Option.{Option, Option.none, Option.some}
-use lib.Dec.{leb}
+use lib.Dec.{leb, ltb}
 use lib.ListN.{length, drop, getD}
 use Rattle.lists.specs.declared.Entry.{Entry}
 use Rattle.lists.specs.declared.Entry.the-variants.{Version, Nothing}
@@ -37,6 +37,12 @@ bytesOf v = v / 0x1000000 % 256 ∷ v / 0x10000 % 256 ∷ v / 0x100 % 256 ∷ v 
 unfoldable pub listBytes : List ℕ → List ℕ
 listBytes [] = []
 listBytes (v ∷ vs) = bytesOf v ++ listBytes vs
+
+-- Every number of the list is below a bound: of a list of bytes 256, of a list of versions 2 ^ 32. A slice of numbers
+-- tells it of its elements; a theorem about lists alone has to ask it
+unfoldable pub allBelow : ℕ → List ℕ → Bool
+allBelow bound [] = true
+allBelow bound (x ∷ xs) = ltb x bound && allBelow bound xs
 
 -- The entry at a place, counted from 0, if there is one
 unfoldable pub entryAt : List ℕ → ℕ → Option ℕ

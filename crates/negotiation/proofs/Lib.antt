@@ -1,4 +1,5 @@
 pub mod Packets
 pub mod Places
 pub mod Received
+pub mod Rising
 pub mod Writing

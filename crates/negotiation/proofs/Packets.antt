@@ -13,17 +13,16 @@ use Rattle.refusals.specs.Reply.{Reply, Reply.refused, Reply.answered, refuse}
 use Rattle.refusals.specs.Rule.{Rule, Rule._when_, clear}
 use Rattle.refusals.specs.declared.Call.the-variants.{Writing}
 use Rattle.refusals.proofs.Rules.{both-true, lowest-clear, lowest-applies}
-use Rattle.versions.specs.Limits.{maxTable}
 use Rattle.versions.specs.Table.{elem, entriesKeepRule, tableKeepsRule}
 use Rattle.versions.specs.Version.{reserved, usable}
-use Rattle.lists.specs.Wire.{entries, listBytes, versionBytes}
-use Rattle.lists.specs.declared.Span.{Span}
+use Rattle.lists.specs.Wire.{allBelow, entries, listBytes, versionBytes}
 use Rattle.versions.proofs.Lists.{part-rest, table-counts}
-use Rattle.lists.proofs.Entries.{allBelow, allBelow-head, entries-listBytes, length-listBytes}
+use Rattle.lists.proofs.Entries.{allBelow-head, entries-listBytes, length-listBytes}
 use Rattle.invariants.specs.Header.{Form.versionNegotiation, span, isLong, versionOf, destinationLength, sourceLength}
 use Rattle.invariants.specs.Header.{destinationID, sourceID, sourceStart, restStart, restOf, listed, longTruncated, notWhole, readHeader}
-use Rattle.invariants.specs.Limits.{maxConnectionID, maxDatagram}
-use Rattle.negotiation.specs.Limits.{maxUnusedBits}
+use Rattle.invariants.specs.Limits.{maxDatagram}
+use Rattle.negotiation.specs.Laws.{ReadBack}
+use Rattle.negotiation.specs.Limits.{maxPacket, maxUnusedBits}
 use Rattle.negotiation.specs.Packet.{packetLength, packetFor, offerRules, packetRules, negotiationPacket}
 use Rattle.negotiation.proofs.Places.{length-part}
 
@@ -131,9 +130,6 @@ negotiated r o bits room bytes h = go (clear (packetRules r o bits room)) refl
         (λ n q. false≢true (ap isAnswered q)) rules e h)
 
 -- Document 01: "at most 581"
-abbrev pub maxPacket : ℕ
-maxPacket = 7 + (maxConnectionID + (maxConnectionID + versionBytes * maxTable))
-
 pub maxPacket-is : maxPacket ≡ 581
 maxPacket-is = refl
 
@@ -150,6 +146,16 @@ packet-at-most r o bits room j e =
     let t = table-counts o (j .offer .table) in
     rw (length-packetFor r o bits (j .complete)) (omega arith)
 
+-- Document 01: "The answer is the byte count: 7 plus both ID lengths plus 4 per entry"
+pub packet-count : (received offered : List ℕ) (unusedBits room : ℕ) (bytes : List ℕ)
+    → negotiationPacket received offered unusedBits room ≡ answered bytes
+    → length bytes ≡ 7 + (length (destinationID received) + (length (sourceID received) + versionBytes * length offered))
+packet-count r o bits room bytes h =
+    let p = negotiated r o bits room bytes h in
+    let complete = p .0 .complete in
+    rw (p .1, length-packetFor r o bits complete, length-destinationID r complete, length-sourceID r complete)
+
+-- "at most 581"
 pub count-at-most : (r o : List ℕ) (bits room : ℕ) (bytes : List ℕ)
     → negotiationPacket r o bits room ≡ answered bytes → allBelow 256 r ≡ true → length bytes ≤ maxPacket
 count-at-most r o bits room bytes h e =
@@ -157,24 +163,6 @@ count-at-most r o bits room bytes h e =
     rw (p .1) (packet-at-most r o bits room (p .0) e)
 
 -- ---- the reader reads back what the writer put in
-
--- The bytes that a span shows
-abbrev pub bytesIn : Span → List ℕ → List ℕ
-bytesIn part bytes = take (part .end - part .start) (drop (part .start) bytes)
-
--- Whatever length is told, the bytes read as a Version Negotiation packet in which the IDs are those of the
--- received datagram, swapped, and the list is the offered table in its order
-pub record ReadBack (received offered bytes : List ℕ) : Type 0 where
-  pub destination : Span
-  pub source : Span
-  pub list : Span
-  pub reads : (told : ℕ) → readHeader bytes told ≡ answered (versionNegotiation destination source list)
-  pub destination-bytes : bytesIn destination bytes ≡ sourceID received
-  pub source-bytes : bytesIn source bytes ≡ destinationID received
-  pub list-bytes : entries (bytesIn list bytes) ≡ offered
-  pub destination-swapped : destinationID bytes ≡ sourceID received
-  pub source-swapped : sourceID bytes ≡ destinationID received
-  pub list-kept : listed bytes ≡ offered
 
 -- The header reader on a Version Negotiation packet that none of its refusals meets
 reads-negotiation : (bytes : List ℕ) (told : ℕ) → length bytes ≤ maxDatagram → isLong bytes ≡ true

@@ -1,6 +1,13 @@
--- The limit of the Version Negotiation packet's writer.
-use Prim.Native.Nat.{ℕ}
+-- The limits of the Version Negotiation packet's writer.
+use Prim.Native.Nat.{ℕ, _+_, _*_}
+use Rattle.versions.specs.Limits.{maxTable}
+use Rattle.lists.specs.Wire.{versionBytes}
+use Rattle.invariants.specs.Limits.{maxConnectionID}
 
 -- Document 01: "a number 0 to 127 for the unused bits"
 abbrev pub maxUnusedBits : ℕ
 maxUnusedBits = 127
+
+-- The most bytes of a packet: "7 plus both ID lengths plus 4 per entry, at most 581"
+abbrev pub maxPacket : ℕ
+maxPacket = 7 + (maxConnectionID + (maxConnectionID + versionBytes * maxTable))

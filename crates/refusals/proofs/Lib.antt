@@ -1,3 +1,4 @@
 pub mod Codes
 pub mod Injective
+pub mod Rising
 pub mod Rules

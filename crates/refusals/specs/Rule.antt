@@ -1,8 +1,12 @@
 -- Document 01: "the lowest number that applies is given, and only then". The refusals of a call are a list of
--- rules in rising order, each a number and the paper's condition as a test; the first that applies is given.
+-- rules in rising order, each a number and the paper's condition as a test; the first that applies is given. Beside each
+-- list of rules a theorem says that its numbers rise (`rising`), and `lowest-number-given` that the first that applies
+-- is then the lowest.
 use Prim.Native.Nat.{ℕ}
-use mathlib.Core.Bool.{Bool, true, false, not, _&&_}
+use mathlib.Core.Bool.{Bool, true, false, not, _&&_, _||_}
 use mathlib.Core.List.{List, [], _∷_}
+use mathlib.Core.Option.{Option, Option.none, Option.some}
+use lib.Dec.{eqb, ltb}
 use Rattle.refusals.specs.Reply.{Reply, refuse}
 use Rattle.refusals.specs.declared.Call.{Call}
 
@@ -24,3 +28,18 @@ judged call rules answer = lowest (refuse call) rules answer
 abbrev pub clear : List Rule → Bool
 clear [] = true
 clear ((n when applies) ∷ rules) = not applies && clear rules
+
+-- The number that the rules give, if one applies
+abbrev pub numberGiven : List Rule → Option ℕ
+numberGiven rules = lowest some rules none
+
+-- The number is that of a rule which applies
+abbrev pub applies : ℕ → List Rule → Bool
+applies n [] = false
+applies n ((m when test) ∷ rules) = (test && eqb m n) || applies n rules
+
+-- Each number of the rules is below the next
+abbrev pub rising : List Rule → Bool
+rising [] = true
+rising ((n when test) ∷ []) = true
+rising ((n when test) ∷ (m when next) ∷ rules) = ltb n m && rising ((m when next) ∷ rules)

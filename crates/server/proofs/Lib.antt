@@ -1,3 +1,5 @@
 pub mod Flights
 pub mod Injective
+pub mod Repeated
+pub mod Rising
 pub mod Worked

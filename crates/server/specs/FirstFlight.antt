@@ -1,4 +1,7 @@
--- Document 01, "By the box": the server's choice after a first flight (RFC 9368 sections 2.3 and 4).
+-- Document 01, "By the box": the server's choice after a first flight (RFC 9368 sections 2.3 and 4). Its refusals are
+-- not in the order of their numbers, but in document 01's own: "31 to 36, 41, 43 and 51 only, in its own order above".
+-- That is 41, 43 (`serverRules`); where the version is readable and information is given, 31 to 36 and 51
+-- (`flightRules`). In each of the two lists the numbers rise.
 use Prim.Native.Nat.{ℕ}
 use mathlib.Core.Bool.{Bool, cond, not, _&&_, _||_}
 use mathlib.Core.List.{List, [], _∷_, _++_}
