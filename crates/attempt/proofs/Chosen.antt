@@ -66,7 +66,7 @@ attempt-keeps a r =
     Kept b = tableKeepsRule (tableOf b) ≡ true
 
     kept : (b : Attempt) → Kept b → Keeps Kept b
-    kept b k = record { stays = λ n. k; acts = λ v. k; notes = k; closes = λ n h. k; completes = λ v. k }
+    kept b k = record { stays = λ n. k; acts = λ v held. k; notes = k; closes = λ n h. k; completes = λ v. k }
 
 -- 40: a readable packet's list
 packet-within : (d : List ℕ) → isReadableNegotiation d ≡ true → length (listed d) ≤ maxList
