@@ -2,7 +2,7 @@
 
 use quic_version::{
     server_choice, write_information, write_version_negotiation, Attempt, Decision, Pair, Refusal,
-    Sender, MAX_INFORMATION, MAX_PACKET,
+    Sender, WriteRefusal, MAX_INFORMATION, MAX_PACKET,
 };
 
 /// A server's configuration.
@@ -30,8 +30,10 @@ pub enum End {
     Completed { attempted: u32, in_use: u32 },
     /// The client has ended its attempt with this refusal.
     Refused(Refusal),
-    /// The server writes no packet, or the client ignores it: the client waits in vain.
-    Silence,
+    /// The server has no packet to send: the client waits in vain.
+    NotSent(WriteRefusal),
+    /// The client ignores the server's packet: it waits in vain.
+    Ignored(Refusal),
 }
 
 pub const DESTINATION: [u8; 8] = [0xd1; 8];
@@ -58,12 +60,12 @@ pub fn information(sender: Sender, chosen: u32, available: &[u32]) -> Vec<u8> {
 }
 
 /// The Version Negotiation packet that answers a first flight with [`DESTINATION`] and [`SOURCE`].
-pub fn negotiation(version: u32, offered: &[u32]) -> Option<Vec<u8>> {
+pub fn negotiation(version: u32, offered: &[u32]) -> Result<Vec<u8>, WriteRefusal> {
     let mut packet = vec![0; MAX_PACKET];
     let flight = long_form(version, &DESTINATION, &SOURCE, &[]);
-    let count = write_version_negotiation(&flight, offered, 64, &mut packet).ok()?;
+    let count = write_version_negotiation(&flight, offered, 64, &mut packet)?;
     packet.truncate(count);
-    Some(packet)
+    Ok(packet)
 }
 
 /// A link from its first flight to its end.
@@ -96,13 +98,13 @@ pub fn link(client: Client<'_>, server: Server<'_>) -> End {
             }
             Decision::Negotiate => {
                 let packet = match negotiation(attempted, server.offered) {
-                    Some(packet) => packet,
-                    None => return End::Silence,
+                    Ok(packet) => packet,
+                    Err(refusal) => return End::NotSent(refusal),
                 };
                 match attempt.datagram(&packet) {
                     Ok(_) => {}
                     Err(Refusal::NoVersionLeft) => return End::Refused(Refusal::NoVersionLeft),
-                    Err(_) => return End::Silence,
+                    Err(refusal) => return End::Ignored(refusal),
                 }
             }
         }
