@@ -341,3 +341,30 @@ fn faults_have_no_close_code() {
         assert_eq!(refusal.close_code(), None);
     }
 }
+
+/// A client with this table and the pair 3 to 4, led to a version by a packet. The handshake ends
+/// in the version in use with these Available Versions. The version that it attempted, if it has
+/// completed.
+fn attempted(table: &[u32], listed: u32, in_use: u32, available: &[u32]) -> Option<u32> {
+    let pairs = [Pair { from: 3, to: 4 }];
+    let mut attempt = Attempt::start(table, &pairs, 1, &DESTINATION, &SOURCE).unwrap();
+    let packet = negotiation(1, &[listed]).unwrap();
+    assert_eq!(attempt.datagram(&packet), Ok(listed));
+    let answer = information(Sender::Server, in_use, available);
+    let completed = attempt.outcome(in_use, Some(&answer));
+    completed.ok().map(|_| attempt.attempted())
+}
+
+/// README on the theorem of two clients: against one Available list that holds the version in use
+/// at each they attempted the same version, though they can use different ones. Where the list does
+/// not hold it, they can have attempted different ones.
+#[test]
+fn two_clients() {
+    let table = [3, 4, 1];
+    assert_eq!(attempted(&table, 3, 3, &[4, 3]), Some(3));
+    assert_eq!(attempted(&table, 3, 4, &[4, 3]), Some(3));
+    assert_eq!(attempted(&table, 4, 4, &[4, 3]), None);
+
+    assert_eq!(attempted(&table, 3, 3, &[7]), Some(3));
+    assert_eq!(attempted(&table, 4, 4, &[7]), Some(4));
+}
