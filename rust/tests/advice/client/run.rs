@@ -193,14 +193,16 @@ fn other_refusals_are_closed() {
     assert_eq!(client.asked(), [Asked::Close(0x08)]);
 }
 
-/// After a 75: a new attempt with the whole table completes as if there had been no attack; one
-/// with the table that the attacker asked for is the downgrade.
+/// After a 75: a new attempt with the whole table and new IDs ignores a late copy of the packet and
+/// completes as if there had been no attack; one with the table that the attacker asked for is the
+/// downgrade.
 #[test]
 fn going_on_after_75() {
     let answer = information(Sender::Server, 12, &[14, 12, 10]);
-    let mut whole = attempting(&[14, 12, 10]);
-    whole.handshake_done(12, Some(&answer));
-    assert_eq!(whole.asked(), [Asked::Connected(12)]);
+    let mut whole = Attempt::start(&[14, 12, 10], &[], 12, &[0xd2; 8], &[0x52; 8]).unwrap();
+    let copy = negotiation(12, &[10]).unwrap();
+    assert_eq!(whole.datagram(&copy), Err(Refusal::OtherConnection));
+    assert_eq!(whole.outcome(12, Some(&answer)), Ok(12));
 
     let mut cut = Attempt::start(&[10], &[], 10, &DESTINATION, &SOURCE).unwrap();
     let answer = information(Sender::Server, 10, &[14, 12, 10]);
