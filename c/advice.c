@@ -25,7 +25,7 @@ static void expect(int holds, const char *what, int line)
 #define VERSION_1 1u
 #define VERSION_2 0x6b3343cfu
 
-/* What the layers were asked since the last time, as words; `version` and `code` go with the last. */
+/* What the layers were asked since the last time, as words; version and code of the last. */
 static char asked[256];
 static uint32_t asked_version;
 static uint64_t asked_code;

@@ -182,7 +182,7 @@ fn downgrades_are_reported() {
     }
 }
 
-/// 71 to 73 are closed too; nothing was kept for them.
+/// Other refusals of an outcome, a 71 and a 31, are closed too, and not reported.
 #[test]
 fn other_refusals_are_closed() {
     let mut client = led_to_10();
