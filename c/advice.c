@@ -1,0 +1,426 @@
+/*
+ * Runs the C of docs/INTEGRATION.md: its client and its server between layers that write down what
+ * they are asked, and the mistakes that the page warns of.
+ *
+ *     awk '/^```c$/ { f = 1; next } /^```$/ { f = 0 } f' docs/INTEGRATION.md >target/integration.c
+ *     gcc -std=c99 -pedantic-errors -Wall -Wextra -Werror -Iinclude -Itarget c/advice.c \
+ *         target/staticlib/libc_interface.a -o target/c_advice
+ */
+#include "integration.c"
+
+#include <stdio.h>
+#include <stdlib.h>
+#include <string.h>
+
+#define EXPECT(condition) expect((condition), #condition, __LINE__)
+
+static void expect(int holds, const char *what, int line)
+{
+    if (!holds) {
+        fprintf(stderr, "c/advice.c:%d: not so: %s\n", line, what);
+        exit(1);
+    }
+}
+
+#define VERSION_1 1u
+#define VERSION_2 0x6b3343cfu
+
+/* What the layers were asked since the last time, as words; version and code of the last. */
+static char asked[256];
+static uint32_t asked_version;
+static uint64_t asked_code;
+static uint8_t sent[QV_MAX_INFORMATION];
+static size_t sent_len;
+
+static void ask(const char *word)
+{
+    EXPECT(strlen(asked) + strlen(word) + 2 <= sizeof asked);
+    strcat(asked, word);
+    strcat(asked, " ");
+}
+
+static int was_asked(const char *words)
+{
+    int same = strcmp(asked, words) == 0;
+
+    if (!same)
+        fprintf(stderr, "asked: %s\n", asked);
+    asked[0] = 0;
+    return same;
+}
+
+static void send_bytes(const char *word, const uint8_t *bytes, size_t count)
+{
+    ask(word);
+    EXPECT(count <= sizeof sent);
+    memcpy(sent, bytes, count);
+    sent_len = count;
+}
+
+/* The client's layers. */
+
+void send_first_flight(uint32_t version, const uint8_t *information, size_t information_len)
+{
+    send_bytes("flight", information, information_len);
+    asked_version = version;
+}
+
+void remove_protection(uint32_t version, const uint8_t *datagram, size_t datagram_len)
+{
+    (void)datagram;
+    (void)datagram_len;
+    ask("protection");
+    asked_version = version;
+}
+
+void keep_packet(const uint8_t *packet, size_t packet_len)
+{
+    (void)packet;
+    EXPECT(packet_len > 0);
+    ask("keep");
+}
+
+void report(const struct qv_attempt *attempt, uint32_t in_use, const uint8_t *information,
+            size_t information_len)
+{
+    (void)information;
+    (void)information_len;
+    EXPECT(attempt->end_mark == QV_CLOSED);
+    ask("report");
+    asked_version = in_use;
+}
+
+void close_connection(uint64_t code)
+{
+    EXPECT(code != 0);
+    ask("close");
+    asked_code = code;
+}
+
+void give_up(void)
+{
+    ask("give-up");
+}
+
+void connected(uint32_t version)
+{
+    ask("connected");
+    asked_version = version;
+}
+
+void fault(const char *text)
+{
+    EXPECT(text != NULL && *text != 0);
+    ask("fault");
+}
+
+/*
+ * The server's layers. The handshake layer has parameters of one byte that counts the bytes after
+ * it, and one that tells whether the rest is Version Information. A datagram whose rest begins with
+ * 0xee cannot be read.
+ */
+static uint8_t collected[256];
+static size_t collected_len;
+static int connection;
+
+int has_connection(const uint8_t *id, size_t id_len)
+{
+    (void)id;
+    return connection && id_len == OUR_ID_LENGTH;
+}
+
+void to_connection(const uint8_t *id, size_t id_len, const uint8_t *datagram, size_t datagram_len)
+{
+    (void)id;
+    (void)id_len;
+    (void)datagram;
+    (void)datagram_len;
+    ask("to-connection");
+}
+
+struct flight add_to_flight(const uint8_t *id, size_t id_len, uint32_t version,
+                            const uint8_t *datagram, size_t datagram_len)
+{
+    struct flight flight = {FLIGHT_UNREADABLE, QV_MISSING, NULL, 0};
+    const uint8_t *rest = datagram + 7 + 2 * OUR_ID_LENGTH;
+    size_t rest_len = datagram_len - 7 - 2 * OUR_ID_LENGTH;
+
+    (void)id;
+    EXPECT(id_len == OUR_ID_LENGTH && version != 14);
+    if (rest_len == 0 || rest[0] == 0xee)
+        return flight;
+    EXPECT(collected_len + rest_len <= sizeof collected);
+    memcpy(collected + collected_len, rest, rest_len);
+    collected_len += rest_len;
+    flight.state = FLIGHT_INCOMPLETE;
+    if (collected_len == 1u + collected[0]) {
+        flight.state = FLIGHT_WHOLE;
+        flight.presence = collected[1];
+        flight.information = collected + 2;
+        flight.information_len = collected_len - 2;
+    }
+    return flight;
+}
+
+void go_on(uint32_t version, const uint8_t *information, size_t information_len)
+{
+    send_bytes("go-on", information, information_len);
+    asked_version = version;
+}
+
+void send_datagram(const uint8_t *datagram, size_t datagram_len)
+{
+    send_bytes("send", datagram, datagram_len);
+}
+
+/* What goes over the link. */
+
+static const uint8_t destination[OUR_ID_LENGTH] = {0xd1, 0xd1, 0xd1, 0xd1, 0xd1, 0xd1, 0xd1, 0xd1};
+static const uint8_t source[OUR_ID_LENGTH] = {0x51, 0x51, 0x51, 0x51, 0x51, 0x51, 0x51, 0x51};
+
+static void put(uint8_t *at, uint32_t version)
+{
+    at[0] = (uint8_t)(version >> 24);
+    at[1] = (uint8_t)(version >> 16);
+    at[2] = (uint8_t)(version >> 8);
+    at[3] = (uint8_t)version;
+}
+
+/* A long form; returns its length. */
+static size_t long_form(uint8_t *packet, uint32_t version, const uint8_t *to, const uint8_t *from,
+                        const uint8_t *rest, size_t rest_len)
+{
+    packet[0] = 0xc0;
+    put(packet + 1, version);
+    packet[5] = OUR_ID_LENGTH;
+    memcpy(packet + 6, to, OUR_ID_LENGTH);
+    packet[6 + OUR_ID_LENGTH] = OUR_ID_LENGTH;
+    memcpy(packet + 7 + OUR_ID_LENGTH, from, OUR_ID_LENGTH);
+    if (rest_len != 0)
+        memcpy(packet + 7 + 2 * OUR_ID_LENGTH, rest, rest_len);
+    return 7 + 2 * OUR_ID_LENGTH + rest_len;
+}
+
+/* Version Information of a server; returns its length. */
+static size_t information_of(uint8_t *bytes, uint32_t chosen, const uint32_t *available,
+                             size_t available_len)
+{
+    size_t count = 0;
+
+    EXPECT(qv_write_information(QV_SERVER, chosen, available, available_len, bytes,
+                                QV_MAX_INFORMATION, &count) == QV_OK);
+    return count;
+}
+
+/* An attempt with table 14, 12, 10 and Original Version 12. */
+static struct qv_attempt attempting(void)
+{
+    static const uint32_t table[] = {14, 12, 10};
+    struct qv_started started = qv_start(table, 3, NULL, 0, 12, destination, sizeof destination,
+                                         source, sizeof source);
+
+    EXPECT(started.refusal == QV_OK);
+    return started.attempt;
+}
+
+/* A Version Negotiation packet that lists one version reaches an attempt. */
+static void negotiation_with(struct qv_attempt *attempt, uint32_t version, const uint8_t *to,
+                             const uint8_t *from)
+{
+    uint8_t packet[64], list[4];
+
+    put(list, version);
+    client_datagram(attempt, packet, long_form(packet, 0, to, from, list, sizeof list));
+}
+
+/* The client: compatible versions, packets that it drops, the end. */
+static void client(void)
+{
+    static const uint32_t both[] = {VERSION_2, VERSION_1};
+    struct qv_attempt attempt;
+    uint8_t packet[64], information[QV_MAX_INFORMATION];
+    size_t count;
+
+    EXPECT(client_start(&attempt, destination, sizeof destination, source, sizeof source));
+    EXPECT(was_asked("flight ") && asked_version == VERSION_1 && sent_len == 12);
+
+    client_datagram(&attempt, packet, long_form(packet, VERSION_1, source, destination, NULL, 0));
+    EXPECT(was_asked("protection ") && asked_version == VERSION_1);
+    client_datagram(&attempt, packet, long_form(packet, VERSION_2, source, destination, NULL, 0));
+    EXPECT(was_asked("protection ") && asked_version == VERSION_2);
+    client_datagram(&attempt, packet, long_form(packet, 14, source, destination, NULL, 0));
+    client_datagram(&attempt, packet, 9);
+    client_datagram(&attempt, NULL, 0);
+    EXPECT(was_asked(""));
+    memset(packet, 0x40, sizeof packet);
+    client_datagram(&attempt, packet, sizeof packet);
+    EXPECT(was_asked("protection ") && asked_version == 0);
+
+    /* A packet, or a Retry, was processed: Version Negotiation is too late. */
+    client_packet_processed(&attempt);
+    negotiation_with(&attempt, VERSION_2, source, destination);
+    EXPECT(was_asked("") && attempt.attempted == VERSION_1);
+
+    count = information_of(information, VERSION_2, both, 2);
+    client_handshake_done(&attempt, VERSION_2, QV_GIVEN, information, count);
+    EXPECT(was_asked("connected ") && asked_version == VERSION_2);
+    client_handshake_done(&attempt, VERSION_2, QV_MISSING, NULL, 0);
+    client_packet_processed(&attempt);
+    EXPECT(was_asked(""));
+}
+
+/* The client is led to 10: 74 and 75 are reported and closed; IDs are free after the act. */
+static void client_led_to_10(void)
+{
+    static const uint32_t all[] = {14, 12, 10};
+    static const uint8_t other[OUR_ID_LENGTH] = {1, 2, 3, 4, 5, 6, 7, 8};
+    uint8_t information[QV_MAX_INFORMATION];
+    size_t available_len;
+
+    for (available_len = 0; available_len <= 3; available_len += 3) {
+        struct qv_attempt attempt = attempting();
+
+        negotiation_with(&attempt, 10, source, other);
+        EXPECT(was_asked("") && attempt.attempted == 12);
+        negotiation_with(&attempt, 10, source, destination);
+        EXPECT(was_asked("keep flight ") && asked_version == 10);
+        negotiation_with(&attempt, 14, source, destination);
+        negotiation_with(&attempt, 14, other, other);
+        EXPECT(was_asked("") && attempt.attempted == 10);
+        client_handshake_done(&attempt, 10, QV_GIVEN, information,
+                              information_of(information, 10, all, available_len));
+        EXPECT(was_asked("report close ") && asked_code == QV_VERSION_NEGOTIATION_ERROR);
+        EXPECT(attempt.end_value == (available_len == 0 ? QV_AVAILABLE_EMPTY : QV_DOWNGRADED));
+    }
+}
+
+static void client_ends(void)
+{
+    struct qv_attempt attempt = attempting();
+
+    negotiation_with(&attempt, 13, source, destination);
+    EXPECT(was_asked("give-up ") && attempt.end_mark == QV_CLOSED);
+
+    attempt = attempting();
+    negotiation_with(&attempt, 10, source, destination);
+    EXPECT(was_asked("keep flight "));
+    client_handshake_done(&attempt, 10, QV_MISSING, NULL, 0);
+    EXPECT(was_asked("close ") && asked_code == QV_VERSION_NEGOTIATION_ERROR);
+
+    attempt = attempting();
+    client_handshake_done(&attempt, 12, QV_GIVEN, source, 3);
+    EXPECT(was_asked("close ") && asked_code == QV_TRANSPORT_PARAMETER_ERROR);
+}
+
+/* No record of qv_start: a fault on this side, and 0 is never handed on as a close code. */
+static void client_faults(void)
+{
+    struct qv_attempt attempt = attempting();
+
+    attempt.table_len = QV_MAX_TABLE + 1;
+    client_datagram(&attempt, source, sizeof source);
+    client_packet_processed(&attempt);
+    client_handshake_done(&attempt, 12, QV_MISSING, NULL, 0);
+    EXPECT(was_asked("fault fault fault "));
+}
+
+/* A first flight in a version, cut in two; the second part may be empty. */
+static void flight(uint32_t version, const uint8_t *parameters, size_t first, size_t all)
+{
+    uint8_t packet[128];
+
+    collected_len = 0;
+    server_datagram(packet, long_form(packet, version, destination, source, parameters, first));
+    if (first < all) {
+        EXPECT(was_asked("")); /* it waits */
+        server_datagram(packet, long_form(packet, version, destination, source, parameters + first,
+                                          all - first));
+    }
+}
+
+static void server(void)
+{
+    static const uint8_t upgrade[] = {13, 1, 0, 0, 0, 1, 0x6b, 0x33, 0x43, 0xcf, 0, 0, 0, 1};
+    static const uint8_t missing[] = {1, 0};
+    static const uint8_t too_short[] = {4, 1, 0, 0, 1};
+    static const uint8_t other_version[] = {9, 1, 0, 0, 0, 2, 0, 0, 0, 2};
+    static const uint8_t unreadable[] = {0xee};
+    uint8_t packet[64];
+    size_t cut;
+
+    EXPECT(server_is_configured());
+    for (cut = 1; cut <= sizeof upgrade; cut++) {
+        flight(VERSION_1, upgrade, cut, sizeof upgrade);
+        EXPECT(was_asked("go-on ") && asked_version == VERSION_2 && sent_len == 12);
+    }
+    flight(VERSION_1, missing, 2, 2);
+    EXPECT(was_asked("go-on ") && asked_version == VERSION_1);
+    flight(VERSION_1, too_short, 2, sizeof too_short);
+    EXPECT(was_asked("close ") && asked_code == QV_TRANSPORT_PARAMETER_ERROR);
+    flight(VERSION_1, other_version, 2, sizeof other_version);
+    EXPECT(was_asked("close ") && asked_code == QV_VERSION_NEGOTIATION_ERROR);
+    flight(VERSION_1, unreadable, 1, 1);
+    EXPECT(was_asked(""));
+
+    /* A version that is not readable: negotiated at once. */
+    flight(14, unreadable, 1, 1);
+    EXPECT(was_asked("send ") && sent_len == 7 + 2 * OUR_ID_LENGTH + 8);
+
+    /* Version Negotiation, a datagram cut short, a short form of no connection: silence. */
+    server_datagram(packet, long_form(packet, 0, destination, source, missing, 2));
+    server_datagram(packet, long_form(packet, 0, destination, source, upgrade + 2, 4));
+    server_datagram(packet, 9);
+    memset(packet, 0x40, sizeof packet);
+    server_datagram(packet, sizeof packet);
+    EXPECT(was_asked(""));
+    connection = 1;
+    server_datagram(packet, sizeof packet);
+    EXPECT(was_asked("to-connection "));
+    connection = 0;
+}
+
+/*
+ * What the page warns of: readable 1; accepted 2, 1; offered 1; pair 1 to 2 at both ends. An honest
+ * server, and the client answers 75.
+ */
+static void accepted_through_a_pair_but_not_offered(void)
+{
+    static const uint32_t table[] = {VERSION_2, VERSION_1, 14};
+    static const uint32_t accepted[] = {VERSION_2, VERSION_1};
+    static const uint32_t one[] = {VERSION_1};
+    static const struct qv_pair pairs[] = {{VERSION_1, VERSION_2}};
+    struct qv_started started = qv_start(table, 3, pairs, 1, 14, destination, sizeof destination,
+                                         source, sizeof source);
+    uint8_t packet[64], answer[QV_MAX_PACKET], information[QV_MAX_INFORMATION];
+    uint32_t decision = 0;
+    size_t count = 0;
+
+    EXPECT(started.refusal == QV_OK);
+    count = long_form(packet, 14, destination, source, NULL, 0);
+    EXPECT(qv_server_choice(one, 1, accepted, 2, pairs, 1, 14, QV_MISSING, NULL, 0, &decision) ==
+           QV_OK);
+    EXPECT(decision == QV_NEGOTIATE);
+    EXPECT(qv_write_version_negotiation(packet, count, one, 1, 64, answer, sizeof answer, &count) ==
+           QV_OK);
+    client_datagram(&started.attempt, answer, count);
+    EXPECT(was_asked("keep flight ") && asked_version == VERSION_1);
+    EXPECT(qv_server_choice(one, 1, accepted, 2, pairs, 1, VERSION_1, QV_GIVEN, sent, sent_len,
+                            &decision) == QV_OK);
+    EXPECT(decision == VERSION_2);
+    count = information_of(information, VERSION_2, one, 1);
+    client_handshake_done(&started.attempt, VERSION_2, QV_GIVEN, information, count);
+    EXPECT(was_asked("report close ") && asked_version == VERSION_2);
+    EXPECT(started.attempt.attempted == VERSION_1 && started.attempt.end_value == QV_DOWNGRADED);
+}
+
+int main(void)
+{
+    client();
+    client_led_to_10();
+    client_ends();
+    client_faults();
+    server();
+    accepted_through_a_pair_but_not_offered();
+    puts("c advice ok");
+    return 0;
+}

@@ -1,0 +1,34 @@
+//! Runs what docs/INTEGRATION.md advises, and what it warns of.
+
+mod configurations;
+mod link;
+
+/// The page's client, and tests that run it.
+mod client {
+    include!("page/client.rs");
+    mod run;
+}
+
+/// The page's server, and tests that run it.
+mod server {
+    include!("page/server.rs");
+    mod run;
+}
+
+/// What is run here is what the page shows.
+#[test]
+fn code_of_the_page() {
+    let page = include_str!("../../../docs/INTEGRATION.md");
+    let shown: Vec<&str> = page
+        .split("\n```rust\n")
+        .skip(1)
+        .map(|rest| rest.split("```\n").next().unwrap())
+        .collect();
+    assert_eq!(
+        shown,
+        [
+            include_str!("page/client.rs"),
+            include_str!("page/server.rs")
+        ]
+    );
+}

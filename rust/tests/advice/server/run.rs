@@ -1,0 +1,187 @@
+//! The page's server, run.
+
+use super::*;
+use crate::link::{information, long_form, DESTINATION, SOURCE};
+use quic_version::versions;
+
+/// What the server asked of the layers around it.
+#[derive(Debug, PartialEq)]
+enum Asked {
+    ToConnection,
+    GoOn(u32, Vec<u8>),
+    Send(Vec<u8>),
+    Close(u64),
+}
+
+/// A handshake layer whose parameters are a count of bytes and then so many bytes. The first of
+/// them tells whether the rest is Version Information (1) or there is none (0). A datagram whose
+/// rest begins with 0xee cannot be read.
+#[derive(Default)]
+struct Around {
+    flight: Vec<u8>,
+    connections: Vec<Vec<u8>>,
+    asked: Vec<Asked>,
+}
+
+impl Layers for Around {
+    fn has_connection(&self, id: &[u8]) -> bool {
+        self.connections.iter().any(|other| other == id)
+    }
+    fn to_connection(&mut self, _: &[u8], _: &[u8]) {
+        self.asked.push(Asked::ToConnection);
+    }
+    fn add_to_flight(&mut self, id: &[u8], _: u32, datagram: &[u8]) -> Flight {
+        assert_eq!(id, DESTINATION);
+        let rest = match read_header(datagram, OUR_ID_LENGTH) {
+            Ok(Header::Long { rest, .. }) => rest,
+            _ => unreachable!(),
+        };
+        if rest.first() == Some(&0xee) {
+            return Flight::Unreadable;
+        }
+        self.flight.extend(rest);
+        match self.flight.split_first() {
+            Some((count, held)) if held.len() == usize::from(*count) => {
+                let information = held[1..].to_vec();
+                Flight::Whole(Some(information).filter(|_| held[0] == 1))
+            }
+            _ => Flight::Incomplete,
+        }
+    }
+    fn go_on(&mut self, id: &[u8], version: u32, information: &[u8]) {
+        self.connections.push(id.to_vec());
+        self.asked.push(Asked::GoOn(version, information.to_vec()));
+    }
+    fn send_datagram(&mut self, datagram: &[u8]) {
+        self.asked.push(Asked::Send(datagram.to_vec()));
+    }
+    fn close_connection(&mut self, _: &[u8], code: u64) {
+        self.asked.push(Asked::Close(code));
+    }
+    fn fault(&mut self, text: &str) {
+        panic!("{}", text);
+    }
+}
+
+/// Parameters with this Version Information, as the handshake layer above reads them.
+fn parameters(information: Option<&[u8]>) -> Vec<u8> {
+    let held = information.unwrap_or_default();
+    let mut bytes = vec![1 + held.len() as u8, u8::from(information.is_some())];
+    bytes.extend(held);
+    bytes
+}
+
+/// What a server asks for after the datagrams of a first flight.
+fn after(version: u32, flight: &[&[u8]]) -> Vec<Asked> {
+    let mut layers = Around::default();
+    for rest in flight {
+        datagram(
+            &mut layers,
+            &long_form(version, &DESTINATION, &SOURCE, rest),
+        );
+    }
+    layers.asked
+}
+
+fn goes_on_in(version: u32) -> [Asked; 1] {
+    let answer = information(Sender::Server, version, &TABLE);
+    [Asked::GoOn(version, answer)]
+}
+
+#[test]
+fn configured() {
+    assert!(is_configured());
+}
+
+#[test]
+fn one_datagram() {
+    let sent = information(Sender::Client, VERSION_1, &[VERSION_2, VERSION_1]);
+    let whole = parameters(Some(&sent));
+    assert_eq!(after(VERSION_1, &[&whole]), goes_on_in(VERSION_2));
+    // Truly missing: the version of the flight.
+    assert_eq!(
+        after(VERSION_1, &[&parameters(None)]),
+        goes_on_in(VERSION_1)
+    );
+}
+
+/// A first flight of two datagrams, cut anywhere: the server waits for the second.
+#[test]
+fn two_datagrams() {
+    let sent = information(Sender::Client, VERSION_1, &[VERSION_2, VERSION_1]);
+    let whole = parameters(Some(&sent));
+    for cut in 1..whole.len() {
+        let (first, second) = whole.split_at(cut);
+        assert_eq!(after(VERSION_1, &[first]), []);
+        assert_eq!(after(VERSION_1, &[first, second]), goes_on_in(VERSION_2));
+    }
+}
+
+/// What is lost where the first of two datagrams is taken for the whole flight: 31 to 36, 51, and
+/// the better version.
+#[test]
+fn incomplete_is_not_missing() {
+    let missing = server_choice(&TABLE, &TABLE, &PAIRS, VERSION_1, None);
+    assert_eq!(missing, Ok(Decision::Use(VERSION_1)));
+    let other = information(Sender::Client, VERSION_2, &[VERSION_2, VERSION_1]);
+    let without = information(Sender::Server, VERSION_1, &[VERSION_2]);
+    let malformed: [(&[u8], u64); 3] = [(&[0; 3], 0x08), (&without, 0x08), (&other, 0x11)];
+    for (information, code) in malformed {
+        let whole = parameters(Some(information));
+        let (first, second) = whole.split_at(2);
+        assert_eq!(after(VERSION_1, &[first, second]), [Asked::Close(code)]);
+    }
+}
+
+/// A datagram that cannot be read is dropped; what can be read of the flight still counts.
+#[test]
+fn unreadable_is_not_missing() {
+    let sent = information(Sender::Client, VERSION_1, &[VERSION_1]);
+    let whole = parameters(Some(&sent));
+    assert_eq!(after(VERSION_1, &[&[0xee]]), []);
+    let (first, second) = whole.split_at(3);
+    assert_eq!(
+        after(VERSION_1, &[first, &[0xee], second]),
+        goes_on_in(VERSION_1)
+    );
+}
+
+/// A version that is not readable: negotiated at once, whatever the datagram holds.
+#[test]
+fn not_readable() {
+    for rest in [&[][..], &[0xee], &[9, 9]] {
+        let asked = after(14, &[rest]);
+        let packet = match &asked[..] {
+            [Asked::Send(packet)] => packet,
+            _ => panic!("{:?}", asked),
+        };
+        match read_header(packet, 0) {
+            Ok(Header::VersionNegotiation {
+                destination,
+                source,
+                list,
+            }) => {
+                assert_eq!((destination, source), (&SOURCE[..], &DESTINATION[..]));
+                assert_eq!(versions(list).collect::<Vec<u32>>(), TABLE);
+            }
+            other => panic!("{:?}", other),
+        }
+    }
+}
+
+#[test]
+fn silence() {
+    // Version Negotiation, a short form of no connection, a datagram cut short.
+    let negotiation = long_form(0, &DESTINATION, &SOURCE, &[0, 0, 0, 1]);
+    let short = [&[0x40][..], &DESTINATION[..]].concat();
+    let mut layers = Around::default();
+    for bytes in [&negotiation[..], &short, &negotiation[..9], &[]] {
+        datagram(&mut layers, bytes);
+    }
+    assert_eq!(layers.asked, []);
+
+    // The same short form, of a connection.
+    layers.connections.push(DESTINATION.to_vec());
+    datagram(&mut layers, &short);
+    assert_eq!(layers.asked, [Asked::ToConnection]);
+}
