@@ -1,10 +1,10 @@
 /*
  * A client and a server walk-through of quic_version.h, its layout, and NULL with length 0.
+ * After `scripts/install PREFIX`, with PREFIX/lib/pkgconfig in PKG_CONFIG_PATH:
  *
- *     gcc -std=c99 -pedantic-errors -Wall -Wextra -Werror -Iinclude c/example.c \
- *         target/staticlib/libc_interface.a -o example
+ *     gcc -std=c99 example.c $(pkg-config --cflags --libs quic-version) -o example
  */
-#include "quic_version.h"
+#include <quic_version.h>
 
 #include <stdio.h>
 #include <stdlib.h>
@@ -52,6 +52,7 @@ static void layout(void)
     size_t i;
 
     EXPECT(qv_interface_version() == QV_INTERFACE_VERSION);
+    EXPECT(qv_interface_2() == QV_INTERFACE_VERSION);
     EXPECT(qv_record_size() == sizeof(struct qv_attempt));
     for (i = 0; i < QV_MAX_TABLE; i++) {
         EXPECT(record.rows[i] == UINT64_C(0x1112131415161718));
@@ -133,8 +134,8 @@ static void server_choice(void)
     refusal = qv_server_choice(readable, 1, accepted, 2, there, 1, 3, QV_GIVEN, information, 3,
                                &decision);
     EXPECT(refusal == QV_INFORMATION_TOO_SHORT && decision == 3);
-    EXPECT(qv_close_code((uint8_t)refusal, QV_CALL_READING) == QV_TRANSPORT_PARAMETER_ERROR);
-    EXPECT(qv_close_code((uint8_t)refusal, QV_CALL_WRITING) == QV_CLOSE_NONE);
+    EXPECT(qv_close_code(refusal, QV_CALL_READING) == QV_TRANSPORT_PARAMETER_ERROR);
+    EXPECT(qv_close_code(refusal, QV_CALL_WRITING) == QV_CLOSE_NONE);
 }
 
 /* An attempt with table 14, 12, 10 whose first flight goes out in 12. */
@@ -157,21 +158,20 @@ static void client(const uint8_t *packet, size_t packet_len)
     /* What the handshake authenticated: Chosen 14, Available 13 and 14. */
     static const uint8_t authenticated[] = {0, 0, 0, 14, 0, 0, 0, 13, 0, 0, 0, 14};
     struct qv_attempt attempt = start();
-    uint32_t own[QV_MAX_TABLE], chosen = 0, version = 0;
+    uint32_t own[QV_MAX_TABLE] = {7, 7}, chosen = 0, version = 0;
     uint8_t information[QV_MAX_INFORMATION];
     size_t own_count = 0, count = 0, from = 0, to = 0;
 
     /* No Version Negotiation packet: ignored. */
-    EXPECT(qv_event(&attempt, QV_DATAGRAM, 0, first_flight, sizeof first_flight) ==
-           QV_NOT_VERSION_NEGOTIATION);
+    EXPECT(qv_datagram(&attempt, first_flight, sizeof first_flight) == QV_NOT_VERSION_NEGOTIATION);
 
     /* The server's packet: attempt 14 now. */
-    EXPECT(qv_event(&attempt, QV_DATAGRAM, 0, packet, packet_len) == QV_OK);
+    EXPECT(qv_datagram(&attempt, packet, packet_len) == QV_OK);
     EXPECT(attempt.attempted == 14 && attempt.end_mark == QV_OPEN);
 
     /* The new first flight has the own list in its Version Information. */
     EXPECT(qv_own_list(attempt, own, &own_count) == QV_OK);
-    EXPECT(own_count == 1 && own[0] == 14);
+    EXPECT(own_count == 1 && own[0] == 14 && own[1] == 7);
     EXPECT(qv_write_information(QV_CLIENT, attempt.attempted, own, own_count, information,
                                 sizeof information, &count) == QV_OK);
     EXPECT(count == 8 && information[3] == 14 && information[7] == 14);
@@ -181,11 +181,11 @@ static void client(const uint8_t *packet, size_t packet_len)
     EXPECT(qv_entry(information + from, to - from, 1, &version) == 0 && version == 14);
 
     /* A genuine packet came; a second Version Negotiation packet is too late. */
-    EXPECT(qv_event(&attempt, QV_PACKET_PROCESSED, 0, NULL, 0) == QV_OK);
-    EXPECT(qv_event(&attempt, QV_DATAGRAM, 0, packet, packet_len) == QV_TOO_LATE);
+    EXPECT(qv_packet_processed(&attempt) == QV_OK && attempt.heard == 1);
+    EXPECT(qv_datagram(&attempt, packet, packet_len) == QV_TOO_LATE);
 
     /* The handshake ends in 14. */
-    EXPECT(qv_event(&attempt, QV_OUTCOME, 14, authenticated, sizeof authenticated) == QV_OK);
+    EXPECT(qv_outcome(&attempt, 14, authenticated, sizeof authenticated) == QV_OK);
     EXPECT(attempt.end_mark == QV_COMPLETED && attempt.end_value == 14);
 }
 
@@ -194,12 +194,14 @@ static void client_refuses(const uint8_t *packet, size_t packet_len)
 {
     static const uint8_t authenticated[] = {0, 0, 0, 14};
     struct qv_attempt attempt = start();
+    uint32_t refusal;
 
-    EXPECT(qv_event(&attempt, QV_DATAGRAM, 0, packet, packet_len) == QV_OK);
-    EXPECT(qv_event(&attempt, QV_OUTCOME, 14, authenticated, sizeof authenticated) ==
-           QV_AVAILABLE_EMPTY);
+    EXPECT(qv_datagram(&attempt, packet, packet_len) == QV_OK);
+    refusal = qv_outcome(&attempt, 14, authenticated, sizeof authenticated);
+    EXPECT(refusal == QV_AVAILABLE_EMPTY);
     EXPECT(attempt.end_mark == QV_CLOSED && attempt.end_value == QV_AVAILABLE_EMPTY);
-    EXPECT(qv_close_code(QV_AVAILABLE_EMPTY, QV_CALL_READING) == QV_VERSION_NEGOTIATION_ERROR);
+    EXPECT(qv_close_code(refusal, QV_CALL_READING) == QV_VERSION_NEGOTIATION_ERROR);
+    printf("%u: %s\n", (unsigned)refusal, qv_refusal_text(refusal));
 }
 
 /* NULL is allowed where the length is 0. */
@@ -233,28 +235,49 @@ static void null_with_length_0(void)
     /* Empty connection IDs. */
     started = qv_start(one, 1, NULL, 0, 1, NULL, 0, NULL, 0);
     EXPECT(started.refusal == QV_OK);
-    EXPECT(qv_event(&started.attempt, QV_DATAGRAM, 0, NULL, 0) == QV_NOT_VERSION_NEGOTIATION);
-    EXPECT(qv_event(&started.attempt, QV_OUTCOME_WITHOUT_INFORMATION, 1, NULL, 0) == QV_OK);
+    EXPECT(qv_datagram(&started.attempt, NULL, 0) == QV_NOT_VERSION_NEGOTIATION);
+    EXPECT(qv_outcome_without_information(&started.attempt, 1) == QV_OK);
     EXPECT(started.attempt.end_mark == QV_COMPLETED && started.attempt.end_value == 1);
 }
 
-/* A record that no attempt has, and kinds that the header does not name: 255. */
+/* Every call refuses this record with 255, and leaves it as found. */
+static void no_attempt(struct qv_attempt attempt)
+{
+    static const uint8_t information[] = {0, 0, 0, 1, 0, 0, 0, 1};
+    const struct qv_attempt found = attempt;
+    uint32_t own[QV_MAX_TABLE] = {7};
+    size_t count = 7;
+
+    EXPECT(qv_datagram(&attempt, first_flight, sizeof first_flight) == QV_NOT_VALID);
+    EXPECT(qv_packet_processed(&attempt) == QV_NOT_VALID);
+    EXPECT(qv_outcome(&attempt, 1, information, sizeof information) == QV_NOT_VALID);
+    EXPECT(qv_outcome_without_information(&attempt, 0) == QV_NOT_VALID);
+    EXPECT(qv_own_list(attempt, own, &count) == QV_NOT_VALID && own[0] == 7 && count == 7);
+    EXPECT(memcmp(&attempt, &found, sizeof attempt) == 0);
+}
+
+/* Records that could not be an attempt's, and kinds that the header does not name: 255. */
 static void not_valid(void)
 {
     static const uint8_t information[] = {0, 0, 0, 1, 0, 0, 0, 1};
     static const uint32_t one[] = {1};
     struct qv_attempt attempt = start(), found;
-    uint32_t own[QV_MAX_TABLE] = {7}, chosen = 7, decision = 7;
+    uint32_t chosen = 7, decision = 7;
     size_t count = 7, from = 7, to = 7;
 
     attempt.table_len = QV_MAX_TABLE + 1;
-    found = attempt;
-    EXPECT(qv_event(&attempt, QV_PACKET_PROCESSED, 0, NULL, 0) == QV_NOT_VALID);
-    EXPECT(memcmp(&attempt, &found, sizeof attempt) == 0);
-    EXPECT(qv_own_list(attempt, own, &count) == QV_NOT_VALID && own[0] == 7 && count == 7);
+    no_attempt(attempt);
+    attempt = start();
+    attempt.attempted = 13;
+    no_attempt(attempt);
+    memset(&attempt, 0, sizeof attempt);
+    no_attempt(attempt);
+    no_attempt(qv_start(one, 0, NULL, 0, 1, NULL, 0, NULL, 0).attempt);
     attempt = start();
     found = attempt;
     EXPECT(qv_event(&attempt, 4, 0, NULL, 0) == QV_NOT_VALID);
+    EXPECT(qv_close_code(QV_DOWNGRADED, 2) == QV_UNKNOWN_CALL);
+    EXPECT(qv_close_code(QV_DOWNGRADED + 256, QV_CALL_READING) == QV_CLOSE_NONE);
     EXPECT(memcmp(&attempt, &found, sizeof attempt) == 0);
     EXPECT(qv_read_information(2, information, sizeof information, &chosen, &from, &to) ==
            QV_NOT_VALID);

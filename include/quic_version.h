@@ -3,7 +3,8 @@
  *
  * Every function answers for every input. A refusal is a number of document 01's table, 0 is none;
  * a result goes into a place that the caller lends, and a refusal leaves every such place as found.
- * QV_NOT_VALID (255) is outside that table: an unknown kind, or a record that no attempt has.
+ * QV_NOT_VALID (255) is outside that table: an unknown kind, or a record that could not be an
+ * attempt's.
  *
  * What no proof covers, and the caller has to see to:
  *  - a pointer is valid for the length given with it, and for the size of what it points to;
@@ -13,7 +14,8 @@
  *    distinct threads are fine;
  *  - x86-64 Linux.
  *
- * C99. Link with libc_interface.a, which `rt staticlib c_interface` makes.
+ * C99. Link with libquic_version.a, which scripts/install puts beside this header, or with
+ * libc_interface.a, the same archive as `rt staticlib c_interface` makes it.
  */
 #ifndef QUIC_VERSION_H
 #define QUIC_VERSION_H
@@ -25,8 +27,16 @@
 extern "C" {
 #endif
 
-/* The interface that this header describes; compare with qv_interface_version(). */
-#define QV_INTERFACE_VERSION 1u
+/* The release, and the interface that this header describes. */
+#define QV_RELEASE "0.1.0"
+#define QV_INTERFACE_VERSION 2u
+
+/* On a function that answers a refusal: the compiler warns where the answer is not looked at. */
+#if defined(__GNUC__)
+#define QV_CHECKED __attribute__((warn_unused_result))
+#else
+#define QV_CHECKED
+#endif
 
 /* Limits. */
 #define QV_MAX_TABLE 16u            /* entries of a table of versions */
@@ -73,10 +83,11 @@ extern "C" {
 #define QV_NO_VERSION_LEFT 65u               /* nothing in common; the attempt has ended */
 #define QV_INFORMATION_MISSING 71u           /* acted, information missing, attempted not 1 */
 #define QV_CHOSEN_NOT_OURS 72u               /* Chosen not in our own list */
-#define QV_CHOSEN_NOT_IN_USE 73u             /* Chosen is not the version in use */
+#define QV_CHOSEN_NOT_IN_USE 73u             /* Chosen, or if it is missing and we never acted the
+                                                attempted version, is not the version in use */
 #define QV_AVAILABLE_EMPTY 74u               /* acted, Available empty */
 #define QV_DOWNGRADED 75u                    /* acted, the renewed choice is not the attempted version */
-#define QV_NOT_VALID 255u                    /* unknown kind, or a record that no attempt has */
+#define QV_NOT_VALID 255u                    /* unknown kind, or no attempt's record */
 
 /* Close codes. */
 #define QV_CLOSE_NONE 0u
@@ -91,7 +102,14 @@ struct qv_pair {
 
 /*
  * The record of one attempt. Make it with qv_start, change it with qv_event alone. To read:
- * `attempted` (the version to attempt now), `end_mark` and `end_value`.
+ * `attempted` (the version to attempt now), `acted`, `heard`, `end_mark` and `end_value`.
+ *
+ * What is judged of a record, by every call that takes one (else QV_NOT_VALID, and all is left as
+ * found): the three counts are within their arrays, the flags are 0 or 1, end_mark is one of the
+ * three below with a value that fits it (0; any; up to 255), unused is 0, and the attempted version
+ * is in the table. So zeroed memory and the record of a refused start are QV_NOT_VALID, and no
+ * event on any record completes it with a version outside its table. What is not judged: that
+ * table, rows, IDs and Original Version are those of one start.
  */
 struct qv_attempt {
     uint64_t rows[QV_MAX_TABLE];
@@ -124,6 +142,16 @@ struct qv_started {
 /* The interface's version. */
 uint32_t qv_interface_version(void);
 
+/*
+ * The same under a name that has its number. Every file that includes this header refers to it, so
+ * that a library with another interface does not link (with GCC and Clang; else compare
+ * qv_interface_version() with QV_INTERFACE_VERSION at the start).
+ */
+uint32_t qv_interface_2(void);
+#if defined(__GNUC__)
+static uint32_t (*const qv_linked_interface)(void) __attribute__((used)) = qv_interface_2;
+#endif
+
 /* sizeof(struct qv_attempt) as the library has it. */
 size_t qv_record_size(void);
 
@@ -131,11 +159,13 @@ size_t qv_record_size(void);
 struct qv_attempt qv_known_record(void);
 
 /*
- * The close code of a refusal, QV_CLOSE_NONE where there is none. A writer's refusal closes nothing.
+ * The close code of a refusal, QV_CLOSE_NONE where there is none, as for a number outside the table.
+ * A writer's refusal closes nothing. Another kind of call than these two gets QV_UNKNOWN_CALL.
  */
 #define QV_CALL_READING 0u /* a reader, the server's choice, an event */
 #define QV_CALL_WRITING 1u
-uint64_t qv_close_code(uint8_t refusal, uint32_t call);
+#define QV_UNKNOWN_CALL UINT64_MAX
+uint64_t qv_close_code(uint32_t refusal, uint32_t call);
 
 /* 1 if the version is reserved (0x?a?a?a?a, RFC 9000 section 15), else 0. */
 uint32_t qv_is_reserved(uint32_t version);
@@ -172,6 +202,7 @@ enum {
     QV_REST_END,
     QV_PLACES
 };
+QV_CHECKED
 uint32_t qv_read_header(const uint8_t *datagram, size_t datagram_len, size_t told, uint32_t *form,
                         uint32_t *version, size_t places[QV_PLACES]);
 
@@ -181,6 +212,7 @@ uint32_t qv_read_header(const uint8_t *datagram, size_t datagram_len, size_t tol
  * Refusals, in order: 11, 12, 21, 22, 23, 24, 25, 26. They leave buffer and count as found.
  * Else: *count bytes are written, at most QV_MAX_PACKET; bytes past them keep their values.
  */
+QV_CHECKED
 uint32_t qv_write_version_negotiation(const uint8_t *received, size_t received_len,
                                       const uint32_t *offered, size_t offered_len,
                                       uint8_t unused_bits, uint8_t *buffer, size_t buffer_len,
@@ -196,6 +228,7 @@ uint32_t qv_write_version_negotiation(const uint8_t *received, size_t received_l
  * chosen, start and end as found.
  * Else: the Chosen Version, and the Available Versions lie from *start up to, not with, *end.
  */
+QV_CHECKED
 uint32_t qv_read_information(uint32_t sender, const uint8_t *bytes, size_t bytes_len,
                              uint32_t *chosen, size_t *start, size_t *end);
 
@@ -205,6 +238,7 @@ uint32_t qv_read_information(uint32_t sender, const uint8_t *bytes, size_t bytes
  * and count as found.
  * Else: *count bytes are written; bytes past them keep their values.
  */
+QV_CHECKED
 uint32_t qv_write_information(uint32_t sender, uint32_t chosen, const uint32_t *available,
                               size_t available_len, uint8_t *buffer, size_t buffer_len,
                               size_t *count);
@@ -219,10 +253,12 @@ uint32_t qv_entry(const uint8_t *list, size_t list_len, size_t place, uint32_t *
  * The choice from a list: the first entry of the table that occurs in it.
  * Refusals, in order: 40, 41, 42. They leave *version as found.
  */
+QV_CHECKED
 uint32_t qv_choose(const uint32_t *table, size_t table_len, const uint32_t *list, size_t list_len,
                    uint32_t *version);
 
 /* The same from a list as it lies on the wire; 1 to 3 bytes left over are no entry. */
+QV_CHECKED
 uint32_t qv_choose_from_bytes(const uint32_t *table, size_t table_len, const uint8_t *bytes,
                               size_t bytes_len, uint32_t *version);
 
@@ -236,6 +272,7 @@ uint32_t qv_choose_from_bytes(const uint32_t *table, size_t table_len, const uin
  * Else: *decision is the version to use, or QV_NEGOTIATE: send a Version Negotiation packet.
  */
 #define QV_NEGOTIATE 0u
+QV_CHECKED
 uint32_t qv_server_choice(const uint32_t *readable, size_t readable_len, const uint32_t *accepted,
                           size_t accepted_len, const struct qv_pair *pairs, size_t pairs_len,
                           uint32_t version, uint32_t presence, const uint8_t *information,
@@ -246,6 +283,7 @@ uint32_t qv_server_choice(const uint32_t *readable, size_t readable_len, const u
  * IDs.
  * Refusals, in order: 41, 43, 44, 45. The record is then no attempt.
  */
+QV_CHECKED
 struct qv_started qv_start(const uint32_t *table, size_t table_len, const struct qv_pair *pairs,
                            size_t pairs_len, uint32_t original, const uint8_t *destination,
                            size_t destination_len, const uint8_t *source, size_t source_len);
@@ -266,15 +304,110 @@ struct qv_started qv_start(const uint32_t *table, size_t table_len, const struct
 #define QV_PACKET_PROCESSED 1u            /* a genuine packet other than Version Negotiation */
 #define QV_OUTCOME 2u                     /* authenticated Version Information is given */
 #define QV_OUTCOME_WITHOUT_INFORMATION 3u /* it is missing */
+QV_CHECKED
 uint32_t qv_event(struct qv_attempt *attempt, uint32_t kind, uint32_t value, const uint8_t *bytes,
                   size_t bytes_len);
 
 /*
  * The own list of an attempt: every table entry that is the attempted version or is paired from
  * it, in table order. It goes into the client's Version Information as Available Versions.
- * Refusal: 255 for a record that no attempt has, which leaves versions and count as found.
+ * Refusal: 255 (see struct qv_attempt), which leaves versions and count as found.
+ * Else: *count versions; places past them keep their values.
  */
+QV_CHECKED
 uint32_t qv_own_list(struct qv_attempt attempt, uint32_t versions[QV_MAX_TABLE], size_t *count);
+
+/*
+ * Each event by its own name; refusals as qv_event's.
+ */
+
+/* A datagram came. QV_OK: the attempt acted, and attempt->attempted is the version to attempt now. */
+QV_CHECKED
+static inline uint32_t qv_datagram(struct qv_attempt *attempt, const uint8_t *datagram,
+                                   size_t datagram_len)
+{
+    return qv_event(attempt, QV_DATAGRAM, 0, datagram, datagram_len);
+}
+
+/* A genuine packet other than Version Negotiation was processed. */
+QV_CHECKED
+static inline uint32_t qv_packet_processed(struct qv_attempt *attempt)
+{
+    return qv_event(attempt, QV_PACKET_PROCESSED, 0, NULL, 0);
+}
+
+/* The handshake ended with this version in use, and authenticated Version Information. */
+QV_CHECKED
+static inline uint32_t qv_outcome(struct qv_attempt *attempt, uint32_t in_use,
+                                  const uint8_t *information, size_t information_len)
+{
+    return qv_event(attempt, QV_OUTCOME, in_use, information, information_len);
+}
+
+/* The handshake ended with this version in use, and no Version Information. */
+QV_CHECKED
+static inline uint32_t qv_outcome_without_information(struct qv_attempt *attempt,
+                                                      uint32_t in_use)
+{
+    return qv_event(attempt, QV_OUTCOME_WITHOUT_INFORMATION, in_use, NULL, 0);
+}
+
+/*
+ * The words of a refusal, without its number: "no refusal" for 0, "an unknown number" for a number
+ * that no refusal has. The Rust crate shows the same words, and its tests compare them.
+ */
+static inline const char *qv_refusal_text(uint32_t number)
+{
+    switch (number) {
+    case 0: return "no refusal";
+    case QV_DATAGRAM_TOO_LONG: return "the datagram has over 65,535 bytes";
+    case QV_TRUNCATED:
+        return "the datagram is empty, a field runs past its end, or a told length is over 255";
+    case QV_LIST_NOT_WHOLE: return "the Version Negotiation list is empty, or bytes are left over";
+    case QV_SHORT_FORM: return "the packet to answer has the short form";
+    case QV_VERSION_NEGOTIATION_RECEIVED: return "the packet to answer has version 0";
+    case QV_BAD_OFFERED_TABLE: return "the offered table breaks its rule";
+    case QV_RECEIVED_VERSION_OFFERED: return "the received version is in the offered table";
+    case QV_UNUSED_BITS_TOO_LARGE: return "the unused bits are over 127";
+    case QV_NO_ROOM_FOR_PACKET: return "the buffer is shorter than the packet";
+    case QV_INFORMATION_TOO_SHORT: return "the Version Information has under 4 bytes";
+    case QV_INFORMATION_NOT_IN_FOURS:
+        return "the length of the Version Information is not a multiple of four";
+    case QV_INFORMATION_TOO_LONG:
+        return "the Version Information has over 1,024 bytes, or over 255 Available Versions";
+    case QV_CHOSEN_IS_ZERO: return "the Chosen Version is 0";
+    case QV_AVAILABLE_HOLDS_ZERO: return "an Available Version is 0";
+    case QV_CHOSEN_NOT_AVAILABLE:
+        return "a client's Chosen Version is not among its Available Versions";
+    case QV_NO_ROOM_FOR_INFORMATION: return "the buffer is shorter than the Version Information";
+    case QV_LIST_TOO_LONG: return "the list to choose from has over 16,382 entries";
+    case QV_BAD_TABLE: return "a table of versions breaks its rule";
+    case QV_NOTHING_IN_COMMON: return "nothing of the table is in the list";
+    case QV_BAD_PAIRS: return "the compatible pairs break their rule";
+    case QV_ORIGINAL_NOT_IN_TABLE: return "the Original Version is not in the table";
+    case QV_CONNECTION_ID_TOO_LONG: return "a connection ID has over 20 bytes";
+    case QV_CHOSEN_NOT_RECEIVED:
+        return "the Chosen Version is not the version of the first flight";
+    case QV_NOT_VERSION_NEGOTIATION:
+        return "the datagram is no readable Version Negotiation packet";
+    case QV_TOO_LATE:
+        return "the attempt has ended, or acted or heard before this Version Negotiation packet";
+    case QV_OTHER_CONNECTION: return "the connection IDs of the packet are not ours, swapped";
+    case QV_LISTS_ORIGINAL: return "the packet lists the Original Version";
+    case QV_NO_VERSION_LEFT: return "the packet lists no version of ours; the attempt has ended";
+    case QV_INFORMATION_MISSING:
+        return "Version Information is missing after Version Negotiation, and version 1 is not attempted";
+    case QV_CHOSEN_NOT_OURS: return "the Chosen Version is not in our own list";
+    case QV_CHOSEN_NOT_IN_USE:
+        return "the Chosen Version, or the attempted one where it is missing, is not the version in use";
+    case QV_AVAILABLE_EMPTY:
+        return "the server's Available Versions are empty after Version Negotiation";
+    case QV_DOWNGRADED:
+        return "the server's Available Versions lead to another choice than the attempted version";
+    case QV_NOT_VALID: return "an unknown kind, or a record that could not be an attempt's";
+    default: return "an unknown number";
+    }
+}
 
 #ifdef __cplusplus
 }
