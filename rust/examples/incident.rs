@@ -7,6 +7,7 @@ use quic_version::{
     write_version_negotiation, Attempt, Decision, End, Header, Refusal, Sender, MAX_INFORMATION,
     MAX_PACKET,
 };
+use std::error::Error;
 
 /// The client's versions, best first. 10 is the old one, with the known weakness.
 const CLIENT_TABLE: [u32; 3] = [14, 12, 10];
@@ -19,7 +20,7 @@ const ORIGINAL: u32 = 12;
 const DESTINATION: [u8; 4] = [0xd1, 0xd2, 0xd3, 0xd4];
 const SOURCE: [u8; 2] = [0x51, 0x52];
 
-fn main() -> Result<(), Refusal> {
+fn main() -> Result<(), Box<dyn Error>> {
     println!("Client's versions, best first: {}.", words(&CLIENT_TABLE));
     println!("Server's versions, best first: {}.", words(&SERVER_TABLE));
     println!("Version 10 is old and weak. Both ends would meet in 12 or 14.");
@@ -54,7 +55,7 @@ fn first_flight() -> Result<Attempt, Refusal> {
 
 /// Someone on the path saw the first flight. He answers faster than the server, with the right
 /// connection IDs, and lists version 10 alone.
-fn forged_packet(attempt: &mut Attempt) -> Result<(), Refusal> {
+fn forged_packet(attempt: &mut Attempt) -> Result<(), Box<dyn Error>> {
     step(
         "attacker",
         "reads its connection IDs and forges a Version Negotiation packet",
@@ -64,7 +65,7 @@ fn forged_packet(attempt: &mut Attempt) -> Result<(), Refusal> {
 }
 
 /// The server itself cannot read version 12, and says so.
-fn honest_packet(attempt: &mut Attempt, table: &[u32]) -> Result<(), Refusal> {
+fn honest_packet(attempt: &mut Attempt, table: &[u32]) -> Result<(), Box<dyn Error>> {
     let decision = server_choice(table, table, &[], ORIGINAL, None)?;
     assert_eq!(decision, Decision::Negotiate);
     step(
@@ -75,7 +76,7 @@ fn honest_packet(attempt: &mut Attempt, table: &[u32]) -> Result<(), Refusal> {
 }
 
 /// A Version Negotiation packet reaches the client.
-fn answer_with(attempt: &mut Attempt, offered: &[u32]) -> Result<(), Refusal> {
+fn answer_with(attempt: &mut Attempt, offered: &[u32]) -> Result<(), Box<dyn Error>> {
     let mut buffer = [0; MAX_PACKET];
     let count = write_version_negotiation(&long_packet(ORIGINAL), offered, 64, &mut buffer)?;
     let packet = &buffer[..count];
@@ -91,7 +92,7 @@ fn answer_with(attempt: &mut Attempt, offered: &[u32]) -> Result<(), Refusal> {
 
 /// The handshake in the attempted version ends. What the server says in it is authenticated: no
 /// attacker can change it.
-fn handshake(attempt: &mut Attempt, available: &[u32]) -> Result<(), Refusal> {
+fn handshake(attempt: &mut Attempt, available: &[u32]) -> Result<(), Box<dyn Error>> {
     let in_use = attempt.attempted();
     let mut buffer = [0; MAX_INFORMATION];
     let count = write_information(Sender::Server, in_use, available, &mut buffer)?;
@@ -134,7 +135,8 @@ fn handshake(attempt: &mut Attempt, available: &[u32]) -> Result<(), Refusal> {
             }
         }
     }
-    explain(answer, information)
+    explain(answer, information)?;
+    Ok(())
 }
 
 /// The old code's check, with its slip: a list without entries has no entry that is better.

@@ -6,8 +6,8 @@
 //! end.
 //!
 //! The work is done by the static library of include/quic_version.h. Every function answers for
-//! every input. A [`Refusal`] is one number of document 01's table; it carries no other value and
-//! leaves lent buffers as found.
+//! every input. A [`Refusal`] is one number of document 01's table, and so is a writer's
+//! [`WriteRefusal`]; it carries no other value and leaves lent buffers as found.
 //!
 //! ```
 //! use quic_version::{Attempt, End};
@@ -44,7 +44,7 @@ pub use attempt::{Attempt, End, OwnList};
 pub use choice::{
     are_pairs, choose, choose_from_bytes, is_reserved, is_table, server_choice, Decision, Pair,
 };
-pub use refusal::Refusal;
+pub use refusal::{Refusal, WriteRefusal};
 pub use wire::{
     read_header, read_information, versions, write_information, write_version_negotiation, Header,
     Information, Sender, Versions,

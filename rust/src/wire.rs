@@ -1,8 +1,8 @@
 //! Datagram headers, Version Negotiation packets and Version Information.
 
 use crate::ffi;
-use crate::refusal::answer;
-use crate::Refusal;
+use crate::refusal::{answer, written};
+use crate::{Refusal, WriteRefusal};
 use std::iter::FusedIterator;
 
 /// The parts of a datagram that RFC 8999 fixes for every version.
@@ -121,26 +121,28 @@ impl FusedIterator for Versions<'_> {}
 ///
 /// # Errors
 ///
-/// They leave the buffer as found. In this order:
-/// - [`DatagramTooLong`](Refusal::DatagramTooLong) (11): over 65,535 bytes were received;
-/// - [`Truncated`](Refusal::Truncated) (12): the datagram is empty, or a field of a long form runs
-///   past its end;
-/// - [`ShortForm`](Refusal::ShortForm) (21): it has the short form;
-/// - [`VersionNegotiationReceived`](Refusal::VersionNegotiationReceived) (22): it has version 0;
-/// - [`BadOfferedTable`](Refusal::BadOfferedTable) (23): the offered table breaks its rule;
-/// - [`ReceivedVersionOffered`](Refusal::ReceivedVersionOffered) (24): the received version is
+/// They leave the buffer as found, and close nothing. In this order:
+/// - [`DatagramTooLong`](WriteRefusal::DatagramTooLong) (11): over 65,535 bytes were received;
+/// - [`Truncated`](WriteRefusal::Truncated) (12): the datagram is empty, or a field of a long form
+///   runs past its end;
+/// - [`ShortForm`](WriteRefusal::ShortForm) (21): it has the short form;
+/// - [`VersionNegotiationReceived`](WriteRefusal::VersionNegotiationReceived) (22): it has version
+///   0;
+/// - [`BadOfferedTable`](WriteRefusal::BadOfferedTable) (23): the offered table breaks its rule;
+/// - [`ReceivedVersionOffered`](WriteRefusal::ReceivedVersionOffered) (24): the received version is
 ///   offered;
-/// - [`UnusedBitsTooLarge`](Refusal::UnusedBitsTooLarge) (25): `unused_bits` is over 127;
-/// - [`NoRoomForPacket`](Refusal::NoRoomForPacket) (26): the buffer is shorter than the packet.
+/// - [`UnusedBitsTooLarge`](WriteRefusal::UnusedBitsTooLarge) (25): `unused_bits` is over 127;
+/// - [`NoRoomForPacket`](WriteRefusal::NoRoomForPacket) (26): the buffer is shorter than the
+///   packet.
 pub fn write_version_negotiation(
     received: &[u8],
     offered: &[u32],
     unused_bits: u8,
     buffer: &mut [u8],
-) -> Result<usize, Refusal> {
+) -> Result<usize, WriteRefusal> {
     let mut count = 0;
     let number = ffi::write_version_negotiation(received, offered, unused_bits, buffer, &mut count);
-    answer(number, || count)
+    written(number, count)
 }
 
 /// Who sends Version Information. From a client, Chosen must be among Available; from a server it
@@ -199,19 +201,19 @@ pub fn read_information(sender: Sender, bytes: &[u8]) -> Result<Information<'_>,
 /// # Errors
 ///
 /// They leave the buffer as found, and close nothing. In this order:
-/// - [`InformationTooLong`](Refusal::InformationTooLong) (33): over 255 Available Versions;
-/// - [`ChosenIsZero`](Refusal::ChosenIsZero) (34): Chosen is 0;
-/// - [`AvailableHoldsZero`](Refusal::AvailableHoldsZero) (35): an Available Version is 0;
-/// - [`ChosenNotAvailable`](Refusal::ChosenNotAvailable) (36), from a client only: Chosen is not
-///   among Available;
-/// - [`NoRoomForInformation`](Refusal::NoRoomForInformation) (37): the buffer is too short.
+/// - [`InformationTooLong`](WriteRefusal::InformationTooLong) (33): over 255 Available Versions;
+/// - [`ChosenIsZero`](WriteRefusal::ChosenIsZero) (34): Chosen is 0;
+/// - [`AvailableHoldsZero`](WriteRefusal::AvailableHoldsZero) (35): an Available Version is 0;
+/// - [`ChosenNotAvailable`](WriteRefusal::ChosenNotAvailable) (36), from a client only: Chosen is
+///   not among Available;
+/// - [`NoRoomForInformation`](WriteRefusal::NoRoomForInformation) (37): the buffer is too short.
 pub fn write_information(
     sender: Sender,
     chosen: u32,
     available: &[u32],
     buffer: &mut [u8],
-) -> Result<usize, Refusal> {
+) -> Result<usize, WriteRefusal> {
     let mut count = 0;
     let number = ffi::write_information(sender.number(), chosen, available, buffer, &mut count);
-    answer(number, || count)
+    written(number, count)
 }
