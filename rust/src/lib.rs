@@ -55,13 +55,6 @@ pub use wire::{
 #[doc = include_str!("../../docs/INTEGRATION.md")]
 mod walk_throughs {}
 
-/// The functions of the library with their numbers, for this crate's own tests and benchmark. No
-/// part of the interface.
-#[doc(hidden)]
-pub mod raw {
-    pub use crate::ffi::*;
-}
-
 /// The interface that this crate is written for; compare with [`interface_version`].
 pub const INTERFACE_VERSION: u32 = 1;
 /// The most entries of a table of versions.

@@ -2,8 +2,12 @@
 //!
 //! The sizes that the header has are asserted in src/ffi.rs, when the crate is built.
 
-use quic_version::raw::{self, Record};
+#[allow(dead_code)]
+#[path = "../src/ffi.rs"]
+mod raw;
+
 use quic_version::{Attempt, Pair};
+use raw::Record;
 use std::mem::size_of;
 
 fn place<T>(record: &Record, field: &T) -> usize {

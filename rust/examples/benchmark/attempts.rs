@@ -3,7 +3,8 @@
 use crate::measure::{calls, grouped, opaque, same, Table};
 use crate::packet::{in_fours, information, long_packet};
 use crate::plain::PlainAttempt;
-use quic_version::{raw, Attempt, Pair, Refusal, MAX_AVAILABLE, MAX_ID, MAX_PAIRS, MAX_TABLE};
+use crate::{raw, Pair};
+use quic_version::{Attempt, Refusal, MAX_AVAILABLE, MAX_ID, MAX_PAIRS, MAX_TABLE};
 
 pub fn rows(table: &mut Table) {
     starts(table);

@@ -2,9 +2,9 @@
 
 use crate::measure::{calls, grouped, opaque, same, Table};
 use crate::packet::{information, long_packet};
-use crate::plain;
+use crate::{plain, raw};
 use quic_version::{
-    raw, read_header, read_information, write_information, write_version_negotiation, Sender,
+    read_header, read_information, write_information, write_version_negotiation, Sender,
     WriteRefusal, MAX_AVAILABLE, MAX_CONNECTION_ID, MAX_INFORMATION, MAX_PACKET, MAX_TABLE,
 };
 

@@ -2,7 +2,7 @@
 
 use super::{number, paired, plain, same, Compared, FOUND};
 use crate::model::{self, Event};
-use quic_version::raw::{self, Record};
+use crate::raw::{self, Record};
 use quic_version::{Attempt, End, Refusal};
 
 /// The record that the header describes for a model's attempt.

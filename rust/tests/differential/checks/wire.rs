@@ -2,7 +2,8 @@
 
 use super::{number, plain, same, Compared, FOUND};
 use crate::model::{self, Header};
-use quic_version::{self as library, raw, Sender, WriteRefusal};
+use crate::raw;
+use quic_version::{self as library, Sender, WriteRefusal};
 
 /// What the reader leaves for a header: form, version and places.
 fn places_of(header: &Header) -> (u32, u32, [usize; 6]) {
