@@ -4,8 +4,8 @@
 //! safe: a slice is valid for its length, references do not overlap, and the library asks for
 //! nothing else. An impossible record or an unknown kind is answered with 255.
 //!
-//! The module is private. Tests and benchmark that call the library by its numbers have this file as
-//! a module of their own; `crate::Pair` is `quic_version::Pair` there too.
+//! The module is private. Tests and benchmark that call the library by its numbers have this file
+//! as a module of their own; `crate::Pair` is `quic_version::Pair` there too.
 
 use crate::Pair;
 use std::mem::{align_of, size_of};

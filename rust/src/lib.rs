@@ -38,6 +38,7 @@ mod choice;
 #[allow(unsafe_code)]
 mod ffi;
 mod refusal;
+mod shown;
 mod wire;
 
 pub use attempt::{Attempt, End, OwnList};
@@ -54,6 +55,11 @@ pub use wire::{
 #[cfg(doctest)]
 #[doc = include_str!("../../docs/INTEGRATION.md")]
 mod walk_throughs {}
+
+/// Version 1 (RFC 9000).
+pub const VERSION_1: u32 = 0x0000_0001;
+/// Version 2 (RFC 9369).
+pub const VERSION_2: u32 = 0x6b33_43cf;
 
 /// The interface that this crate is written for; compare with [`interface_version`].
 pub const INTERFACE_VERSION: u32 = 1;

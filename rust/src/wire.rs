@@ -2,11 +2,13 @@
 
 use crate::ffi;
 use crate::refusal::{answer, written};
+use crate::shown::{OnTheWire, Version};
 use crate::{Refusal, WriteRefusal};
+use std::fmt;
 use std::iter::FusedIterator;
 
 /// The parts of a datagram that RFC 8999 fixes for every version.
-#[derive(Clone, Copy, Debug, PartialEq, Eq)]
+#[derive(Clone, Copy, PartialEq, Eq)]
 pub enum Header<'a> {
     /// A long form with a version other than 0.
     Long {
@@ -35,6 +37,40 @@ pub enum Header<'a> {
         /// The versions as they lie on the wire; [`versions`] reads them.
         list: &'a [u8],
     },
+}
+
+impl fmt::Debug for Header<'_> {
+    fn fmt(&self, f: &mut fmt::Formatter<'_>) -> fmt::Result {
+        match self {
+            Header::Long {
+                version,
+                destination,
+                source,
+                rest,
+            } => f
+                .debug_struct("Long")
+                .field("version", &Version(*version))
+                .field("destination", destination)
+                .field("source", source)
+                .field("rest", rest)
+                .finish(),
+            Header::Short { destination, rest } => f
+                .debug_struct("Short")
+                .field("destination", destination)
+                .field("rest", rest)
+                .finish(),
+            Header::VersionNegotiation {
+                destination,
+                source,
+                list,
+            } => f
+                .debug_struct("VersionNegotiation")
+                .field("destination", destination)
+                .field("source", source)
+                .field("list", &OnTheWire(list))
+                .finish(),
+        }
+    }
 }
 
 /// `QV_LONG` and `QV_SHORT`; the third form is Version Negotiation.
@@ -82,7 +118,7 @@ pub fn read_header(datagram: &[u8], told: usize) -> Result<Header<'_>, Refusal> 
 }
 
 /// The versions of a list as it lies on the wire. [`versions`] makes it.
-#[derive(Clone, Debug)]
+#[derive(Clone)]
 pub struct Versions<'a> {
     list: &'a [u8],
     place: usize,
@@ -114,6 +150,14 @@ impl Iterator for Versions<'_> {
 
 impl ExactSizeIterator for Versions<'_> {}
 impl FusedIterator for Versions<'_> {}
+
+impl fmt::Debug for Versions<'_> {
+    /// Those that are still to come.
+    fn fmt(&self, f: &mut fmt::Formatter<'_>) -> fmt::Result {
+        let left = &self.list[4 * self.place..];
+        f.debug_tuple("Versions").field(&OnTheWire(left)).finish()
+    }
+}
 
 /// Writes the Version Negotiation packet that answers a received datagram: the received IDs
 /// swapped, then the offered table in its order. The answer is the count of bytes written, at most
@@ -165,12 +209,21 @@ impl Sender {
 }
 
 /// Version Information (RFC 9368 section 3) that was read.
-#[derive(Clone, Copy, Debug, PartialEq, Eq)]
+#[derive(Clone, Copy, PartialEq, Eq)]
 pub struct Information<'a> {
     /// The Chosen Version.
     pub chosen: u32,
     /// The Available Versions as they lie on the wire; [`versions`] reads them.
     pub available: &'a [u8],
+}
+
+impl fmt::Debug for Information<'_> {
+    fn fmt(&self, f: &mut fmt::Formatter<'_>) -> fmt::Result {
+        f.debug_struct("Information")
+            .field("chosen", &Version(self.chosen))
+            .field("available", &OnTheWire(self.available))
+            .finish()
+    }
 }
 
 /// Reads Version Information.

@@ -77,6 +77,9 @@ fn end_of(end: model::End) -> End {
 fn check_attempt(attempt: &Attempt, model: &model::Attempt) -> Result<(), String> {
     same("attempted", attempt.attempted(), model.attempted)?;
     same("original", attempt.original(), model.original)?;
+    same("table", attempt.table(), &model.table[..])?;
+    same("acted", attempt.acted(), model.acted)?;
+    same("heard", attempt.heard(), model.heard)?;
     same("end", attempt.end(), end_of(model.end))?;
     same("own_list", attempt.own_list().to_vec(), model.own_list())
 }
