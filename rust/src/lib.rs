@@ -61,6 +61,8 @@ pub const VERSION_1: u32 = 0x0000_0001;
 /// Version 2 (RFC 9369).
 pub const VERSION_2: u32 = 0x6b33_43cf;
 
+/// The release: this crate's version, and that of the library with it.
+pub const RELEASE: &str = env!("CARGO_PKG_VERSION");
 /// The interface that this crate is written for; compare with [`interface_version`].
 pub const INTERFACE_VERSION: u32 = 1;
 /// The most entries of a table of versions.

@@ -1,8 +1,9 @@
-//! Refusals: their numbers, names and words, in both types.
+//! Refusals: their numbers, names and words, in both types and in the C header.
 
 use quic_version::{Refusal, WriteRefusal};
 use std::error::Error;
 use std::fmt::{Debug, Display};
+use std::fs;
 
 /// The numbers of readers, choices, starts and events.
 const READING: [u8; 27] = [
@@ -63,4 +64,116 @@ fn one_name_and_one_text_for_a_number() {
     for rows in rows.windows(2) {
         assert!(rows[0].0 < rows[1].0, "{:?}", rows);
     }
+}
+
+// The C header.
+
+fn header() -> String {
+    let path = concat!(env!("CARGO_MANIFEST_DIR"), "/../include/quic_version.h");
+    fs::read_to_string(path).unwrap()
+}
+
+/// `DatagramTooLong` in C: `QV_DATAGRAM_TOO_LONG`.
+fn name_in_c(name: &str) -> String {
+    let mut in_c = String::from("QV");
+    for letter in name.chars() {
+        if letter.is_ascii_uppercase() {
+            in_c.push('_');
+        }
+        in_c.push(letter.to_ascii_uppercase());
+    }
+    in_c
+}
+
+/// The lines `#define QV_NAME NUMBERu` from `QV_OK` up to the next empty line.
+fn defined(header: &str) -> Vec<(String, u32)> {
+    header
+        .lines()
+        .skip_while(|line| !line.starts_with("#define QV_OK "))
+        .take_while(|line| !line.is_empty())
+        .filter_map(|line| line.strip_prefix("#define "))
+        .map(|line| {
+            let mut words = line.split_whitespace();
+            let (name, number) = (words.next().unwrap(), words.next().unwrap());
+            let number = number.strip_suffix('u').and_then(|n| n.parse().ok());
+            let number = number.unwrap_or_else(|| panic!("no number: {}", line));
+            (String::from(name), number)
+        })
+        .collect()
+}
+
+#[test]
+fn numbers_and_names_of_the_header() {
+    let mut names = vec![(String::from("QV_OK"), 0)];
+    names.extend(
+        all()
+            .iter()
+            .map(|row| (name_in_c(&row.1), u32::from(row.0))),
+    );
+    assert_eq!(defined(&header()), names);
+}
+
+/// What `qv_refusal_text` has to answer, case by case.
+fn texts() -> Vec<(String, String)> {
+    let mut texts = vec![(String::from("0"), String::from("no refusal"))];
+    texts.extend(all().into_iter().map(|row| (name_in_c(&row.1), row.2)));
+    texts.push((String::from("default"), String::from("an unknown number")));
+    texts
+}
+
+/// `qv_refusal_text`, to paste into the header.
+fn text_function() -> String {
+    let mut text = String::from(
+        "static inline const char *qv_refusal_text(uint32_t number)\n{\n    switch (number) {\n",
+    );
+    for (label, words) in texts() {
+        let case = if label == "default" { "" } else { "case " };
+        let line = format!("    {}{}: return \"{}\";\n", case, label, words);
+        if line.len() <= 100 {
+            text += &line;
+        } else {
+            text += &format!("    {}{}:\n        return \"{}\";\n", case, label, words);
+        }
+    }
+    text + "    }\n}\n"
+}
+
+/// The cases of the header's `qv_refusal_text`: label and text. None without that function.
+fn cases(header: &str) -> Option<Vec<(String, String)>> {
+    let (_, after) = header.split_once("qv_refusal_text(uint32_t number)\n{")?;
+    let (body, _) = after.split_once("\n}")?;
+    let parts: Vec<&str> = body.split("return").collect();
+    let cases = parts.windows(2).map(|part| {
+        // The last label before `return`, and the string after it, which may be in pieces.
+        let label = part[0].trim_end().trim_end_matches(':');
+        let label = label.rsplit(char::is_whitespace).next().unwrap();
+        let words: String = part[1].split('"').skip(1).step_by(2).collect();
+        let label = if label == "QV_OK" { "0" } else { label };
+        (String::from(label), words)
+    });
+    Some(cases.collect())
+}
+
+#[test]
+#[ignore = "the header gets qv_refusal_text"]
+fn words_of_the_header() {
+    let found = cases(&header());
+    assert!(
+        found == Some(texts()),
+        "qv_refusal_text of include/quic_version.h has {:?}. It has to be:\n\n{}",
+        found,
+        text_function()
+    );
+}
+
+/// What `cases` reads is what `text_function` writes, on one line or two.
+#[test]
+fn cases_are_read() {
+    assert_eq!(cases("no such function"), None);
+    let function = text_function();
+    assert_eq!(cases(&function), Some(texts()));
+    let longer = function.replace(": return \"", ":\n        return \"\"\n \"");
+    assert_eq!(cases(&longer), Some(texts()));
+    let wrong = function.replace("breaks its rule", "breaks the rule");
+    assert_ne!(cases(&wrong), Some(texts()));
 }
