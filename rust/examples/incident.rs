@@ -86,6 +86,7 @@ fn answer_with(attempt: &mut Attempt, offered: &[u32]) -> Result<(), Box<dyn Err
         note(&format!("It lists: {}.", words(&listed)));
     }
     let attempted = attempt.datagram(packet)?;
+    assert!(attempt.acted());
     step("client", &format!("attempts version {} now", attempted));
     Ok(())
 }
@@ -94,6 +95,11 @@ fn answer_with(attempt: &mut Attempt, offered: &[u32]) -> Result<(), Box<dyn Err
 /// attacker can change it.
 fn handshake(attempt: &mut Attempt, available: &[u32]) -> Result<(), Box<dyn Error>> {
     let in_use = attempt.attempted();
+    attempt.packet_processed()?;
+    assert!(attempt.heard());
+    step("client", "processes a genuine packet of the server");
+    note("From now on Version Negotiation comes too late.");
+
     let mut buffer = [0; MAX_INFORMATION];
     let count = write_information(Sender::Server, in_use, available, &mut buffer)?;
     let information = &buffer[..count];
@@ -109,7 +115,7 @@ fn handshake(attempt: &mut Attempt, available: &[u32]) -> Result<(), Box<dyn Err
     ));
 
     println!();
-    let old = match old_client(in_use, information) {
+    let old = match old_client(attempt.table(), in_use, information) {
         true => format!("\"every entry is fine\": goes on in version {}", in_use),
         false => String::from("sees a better version in the list, and closes"),
     };
@@ -133,27 +139,28 @@ fn handshake(attempt: &mut Attempt, available: &[u32]) -> Result<(), Box<dyn Err
                     code
                 ));
             }
+            note(&format!("For the log: {:?}", attempt));
         }
     }
-    explain(answer, information)?;
+    explain(attempt.table(), answer, information)?;
     Ok(())
 }
 
 /// The old code's check, with its slip: a list without entries has no entry that is better.
-fn old_client(in_use: u32, information: &[u8]) -> bool {
-    let rank = |version| CLIENT_TABLE.iter().position(|entry| *entry == version);
+fn old_client(table: &[u32], in_use: u32, information: &[u8]) -> bool {
+    let rank = |version| table.iter().position(|entry| *entry == version);
     let worse_or_unknown = |version| rank(version).map_or(true, |at| Some(at) >= rank(in_use));
     versions(&information[4..]).all(worse_or_unknown)
 }
 
-fn explain(answer: Result<u32, Refusal>, information: &[u8]) -> Result<(), Refusal> {
+fn explain(table: &[u32], answer: Result<u32, Refusal>, information: &[u8]) -> Result<(), Refusal> {
     match answer {
         Err(Refusal::AvailableEmpty) => {
             note("An empty list cannot bear out the packet that led here.");
         }
         Err(Refusal::Downgraded) => {
             let read = read_information(Sender::Server, information)?;
-            let renewed = choose_from_bytes(&CLIENT_TABLE, read.available)?;
+            let renewed = choose_from_bytes(table, read.available)?;
             note(&format!(
                 "From the server's own list the client would have chosen {}, not {}.",
                 renewed, read.chosen

@@ -57,6 +57,7 @@ impl Both {
     fn acted(&self, packet: &[u8]) -> Both {
         let (mut library, mut plain) = self.copies();
         assert!(same(library.datagram(packet), plain.datagram(packet)).is_ok());
+        assert!(library.acted());
         Both::of(library, plain)
     }
 
@@ -191,6 +192,7 @@ fn small_events(table: &mut Table) {
     );
     let (mut library, mut plain) = begun.copies();
     assert!(same(library.packet_processed(), plain.packet_processed()).is_ok());
+    assert!(library.heard());
     table.row(
         "event: packet processed",
         calls!(opaque(&begun.library.0).clone().packet_processed().is_ok()),
