@@ -7,6 +7,7 @@ use quic_version::{
     write_version_negotiation, Attempt, Decision, End, Header, Refusal, Sender, MAX_INFORMATION,
     MAX_PACKET,
 };
+use std::error::Error;
 
 /// The client's versions, best first. 10 is the old one, with the known weakness.
 const CLIENT_TABLE: [u32; 3] = [14, 12, 10];
@@ -19,7 +20,7 @@ const ORIGINAL: u32 = 12;
 const DESTINATION: [u8; 4] = [0xd1, 0xd2, 0xd3, 0xd4];
 const SOURCE: [u8; 2] = [0x51, 0x52];
 
-fn main() -> Result<(), Refusal> {
+fn main() -> Result<(), Box<dyn Error>> {
     println!("Client's versions, best first: {}.", words(&CLIENT_TABLE));
     println!("Server's versions, best first: {}.", words(&SERVER_TABLE));
     println!("Version 10 is old and weak. Both ends would meet in 12 or 14.");
@@ -54,7 +55,7 @@ fn first_flight() -> Result<Attempt, Refusal> {
 
 /// Someone on the path saw the first flight. He answers faster than the server, with the right
 /// connection IDs, and lists version 10 alone.
-fn forged_packet(attempt: &mut Attempt) -> Result<(), Refusal> {
+fn forged_packet(attempt: &mut Attempt) -> Result<(), Box<dyn Error>> {
     step(
         "attacker",
         "reads its connection IDs and forges a Version Negotiation packet",
@@ -64,7 +65,7 @@ fn forged_packet(attempt: &mut Attempt) -> Result<(), Refusal> {
 }
 
 /// The server itself cannot read version 12, and says so.
-fn honest_packet(attempt: &mut Attempt, table: &[u32]) -> Result<(), Refusal> {
+fn honest_packet(attempt: &mut Attempt, table: &[u32]) -> Result<(), Box<dyn Error>> {
     let decision = server_choice(table, table, &[], ORIGINAL, None)?;
     assert_eq!(decision, Decision::Negotiate);
     step(
@@ -75,7 +76,7 @@ fn honest_packet(attempt: &mut Attempt, table: &[u32]) -> Result<(), Refusal> {
 }
 
 /// A Version Negotiation packet reaches the client.
-fn answer_with(attempt: &mut Attempt, offered: &[u32]) -> Result<(), Refusal> {
+fn answer_with(attempt: &mut Attempt, offered: &[u32]) -> Result<(), Box<dyn Error>> {
     let mut buffer = [0; MAX_PACKET];
     let count = write_version_negotiation(&long_packet(ORIGINAL), offered, 64, &mut buffer)?;
     let packet = &buffer[..count];
@@ -85,14 +86,20 @@ fn answer_with(attempt: &mut Attempt, offered: &[u32]) -> Result<(), Refusal> {
         note(&format!("It lists: {}.", words(&listed)));
     }
     let attempted = attempt.datagram(packet)?;
+    assert!(attempt.acted());
     step("client", &format!("attempts version {} now", attempted));
     Ok(())
 }
 
 /// The handshake in the attempted version ends. What the server says in it is authenticated: no
 /// attacker can change it.
-fn handshake(attempt: &mut Attempt, available: &[u32]) -> Result<(), Refusal> {
+fn handshake(attempt: &mut Attempt, available: &[u32]) -> Result<(), Box<dyn Error>> {
     let in_use = attempt.attempted();
+    attempt.packet_processed()?;
+    assert!(attempt.heard());
+    step("client", "processes a genuine packet of the server");
+    note("From now on Version Negotiation comes too late.");
+
     let mut buffer = [0; MAX_INFORMATION];
     let count = write_information(Sender::Server, in_use, available, &mut buffer)?;
     let information = &buffer[..count];
@@ -108,7 +115,7 @@ fn handshake(attempt: &mut Attempt, available: &[u32]) -> Result<(), Refusal> {
     ));
 
     println!();
-    let old = match old_client(in_use, information) {
+    let old = match old_client(attempt.table(), in_use, information) {
         true => format!("\"every entry is fine\": goes on in version {}", in_use),
         false => String::from("sees a better version in the list, and closes"),
     };
@@ -132,26 +139,28 @@ fn handshake(attempt: &mut Attempt, available: &[u32]) -> Result<(), Refusal> {
                     code
                 ));
             }
+            note(&format!("For the log: {:?}", attempt));
         }
     }
-    explain(answer, information)
+    explain(attempt.table(), answer, information)?;
+    Ok(())
 }
 
 /// The old code's check, with its slip: a list without entries has no entry that is better.
-fn old_client(in_use: u32, information: &[u8]) -> bool {
-    let rank = |version| CLIENT_TABLE.iter().position(|entry| *entry == version);
+fn old_client(table: &[u32], in_use: u32, information: &[u8]) -> bool {
+    let rank = |version| table.iter().position(|entry| *entry == version);
     let worse_or_unknown = |version| rank(version).map_or(true, |at| Some(at) >= rank(in_use));
     versions(&information[4..]).all(worse_or_unknown)
 }
 
-fn explain(answer: Result<u32, Refusal>, information: &[u8]) -> Result<(), Refusal> {
+fn explain(table: &[u32], answer: Result<u32, Refusal>, information: &[u8]) -> Result<(), Refusal> {
     match answer {
         Err(Refusal::AvailableEmpty) => {
             note("An empty list cannot bear out the packet that led here.");
         }
         Err(Refusal::Downgraded) => {
             let read = read_information(Sender::Server, information)?;
-            let renewed = choose_from_bytes(&CLIENT_TABLE, read.available)?;
+            let renewed = choose_from_bytes(table, read.available)?;
             note(&format!(
                 "From the server's own list the client would have chosen {}, not {}.",
                 renewed, read.chosen

@@ -2,6 +2,7 @@
 
 use crate::ffi::{self, Record, MAX_TABLE};
 use crate::refusal::answer;
+use crate::shown::{List, Version};
 use crate::{Pair, Refusal};
 use std::fmt;
 use std::ops::Deref;
@@ -17,7 +18,7 @@ const COMPLETED: u32 = 1;
 const CLOSED: u32 = 2;
 
 /// How an attempt stands.
-#[derive(Clone, Copy, Debug, PartialEq, Eq, Hash)]
+#[derive(Clone, Copy, PartialEq, Eq, Hash)]
 pub enum End {
     /// It has not ended.
     Open,
@@ -25,6 +26,19 @@ pub enum End {
     Completed(u32),
     /// It has closed for this reason.
     Closed(Refusal),
+}
+
+impl fmt::Debug for End {
+    fn fmt(&self, f: &mut fmt::Formatter<'_>) -> fmt::Result {
+        match self {
+            End::Open => f.write_str("Open"),
+            End::Completed(version) => f
+                .debug_tuple("Completed")
+                .field(&Version(*version))
+                .finish(),
+            End::Closed(refusal) => f.debug_tuple("Closed").field(refusal).finish(),
+        }
+    }
 }
 
 /// One attempt of a client: its table, pairs, Original Version and connection IDs, the version that
@@ -91,8 +105,8 @@ impl Attempt {
     ///
     /// # Errors
     ///
-    /// [`TooLate`](Refusal::TooLate) (62), which leaves the attempt as found: it has ended. Twice on
-    /// an open attempt is no refusal.
+    /// [`TooLate`](Refusal::TooLate) (62), which leaves the attempt as found: it has ended. Twice
+    /// on an open attempt is no refusal.
     pub fn packet_processed(&mut self) -> Result<(), Refusal> {
         let number = ffi::event(&mut self.record, PACKET_PROCESSED, 0, &[]);
         answer(number, || ())
@@ -112,8 +126,8 @@ impl Attempt {
     ///   missing; not for attempted version 1, which reads Chosen 1, Available 1 in its place
     ///   (RFC 9368 section 8);
     /// - [`ChosenNotOurs`](Refusal::ChosenNotOurs) (72): Chosen is not in the own list;
-    /// - [`ChosenNotInUse`](Refusal::ChosenNotInUse) (73): Chosen is not `in_use`; if information is
-    ///   missing and the attempt never acted, the attempted version is not `in_use`;
+    /// - [`ChosenNotInUse`](Refusal::ChosenNotInUse) (73): Chosen is not `in_use`; if information
+    ///   is missing and the attempt never acted, the attempted version is not `in_use`;
     /// - [`AvailableEmpty`](Refusal::AvailableEmpty) (74): acted, and Available is empty;
     /// - [`Downgraded`](Refusal::Downgraded) (75): acted, and the choice from Available plus
     ///   `in_use` is not the attempted version.
@@ -132,9 +146,26 @@ impl Attempt {
         self.record.attempted
     }
 
-    /// The Original Version.
+    /// The Original Version: the version of the first flight that the attempt started with.
     pub fn original(&self) -> u32 {
         self.record.original
+    }
+
+    /// The table of versions, best first: 1 to 16 of them.
+    pub fn table(&self) -> &[u32] {
+        &self.record.table[..self.record.table_len as usize]
+    }
+
+    /// Whether the attempt acted on a Version Negotiation packet (document 01's "acted"). The
+    /// attempted version is then its choice from that packet's list.
+    pub fn acted(&self) -> bool {
+        self.record.acted == 1
+    }
+
+    /// Whether a genuine packet other than Version Negotiation was processed (document 01's
+    /// "heard"), see [`Attempt::packet_processed`].
+    pub fn heard(&self) -> bool {
+        self.record.heard == 1
     }
 
     /// How the attempt stands.
@@ -163,9 +194,12 @@ impl Attempt {
 impl fmt::Debug for Attempt {
     fn fmt(&self, f: &mut fmt::Formatter<'_>) -> fmt::Result {
         f.debug_struct("Attempt")
-            .field("original", &self.original())
-            .field("attempted", &self.attempted())
+            .field("table", &List(self.table()))
+            .field("original", &Version(self.original()))
+            .field("attempted", &Version(self.attempted()))
             .field("own_list", &self.own_list())
+            .field("acted", &self.acted())
+            .field("heard", &self.heard())
             .field("end", &self.end())
             .finish_non_exhaustive()
     }
@@ -202,6 +236,6 @@ impl Eq for OwnList {}
 
 impl fmt::Debug for OwnList {
     fn fmt(&self, f: &mut fmt::Formatter<'_>) -> fmt::Result {
-        fmt::Debug::fmt(&**self, f)
+        List(self).fmt(f)
     }
 }

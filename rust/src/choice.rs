@@ -2,12 +2,14 @@
 
 use crate::ffi;
 use crate::refusal::answer;
+use crate::shown::Version;
 use crate::Refusal;
+use std::fmt;
 
 /// A pair of compatible versions: a first flight in `from` can be converted to `to`. Pairs are
 /// neither turned round nor chained.
 #[repr(C)]
-#[derive(Clone, Copy, Debug, PartialEq, Eq, Hash)]
+#[derive(Clone, Copy, PartialEq, Eq, Hash)]
 pub struct Pair {
     /// The version of the first flight.
     pub from: u32,
@@ -18,6 +20,15 @@ pub struct Pair {
 impl From<(u32, u32)> for Pair {
     fn from((from, to): (u32, u32)) -> Pair {
         Pair { from, to }
+    }
+}
+
+impl fmt::Debug for Pair {
+    fn fmt(&self, f: &mut fmt::Formatter<'_>) -> fmt::Result {
+        f.debug_struct("Pair")
+            .field("from", &Version(self.from))
+            .field("to", &Version(self.to))
+            .finish()
     }
 }
 
@@ -65,12 +76,21 @@ pub fn choose_from_bytes(table: &[u32], bytes: &[u8]) -> Result<u32, Refusal> {
 }
 
 /// What a server does after a first flight.
-#[derive(Clone, Copy, Debug, PartialEq, Eq, Hash)]
+#[derive(Clone, Copy, PartialEq, Eq, Hash)]
 pub enum Decision {
     /// Send a Version Negotiation packet.
     Negotiate,
     /// Go on with this version.
     Use(u32),
+}
+
+impl fmt::Debug for Decision {
+    fn fmt(&self, f: &mut fmt::Formatter<'_>) -> fmt::Result {
+        match self {
+            Decision::Negotiate => f.write_str("Negotiate"),
+            Decision::Use(version) => f.debug_tuple("Use").field(&Version(*version)).finish(),
+        }
+    }
 }
 
 const MISSING: u32 = 0;

@@ -3,6 +3,9 @@
 //! Each function has a wrapper with slices and references in the place of pointers. A wrapper is
 //! safe: a slice is valid for its length, references do not overlap, and the library asks for
 //! nothing else. An impossible record or an unknown kind is answered with 255.
+//!
+//! The module is private. Tests and benchmark that call the library by its numbers have this file
+//! as a module of their own; `crate::Pair` is `quic_version::Pair` there too.
 
 use crate::Pair;
 use std::mem::{align_of, size_of};
@@ -198,14 +201,16 @@ pub fn interface_version() -> u32 {
     unsafe { header::qv_interface_version() }
 }
 
-/// `qv_record_size`.
+/// `qv_record_size`, for tests/layout.rs alone.
+#[allow(dead_code)]
 #[inline]
 pub fn record_size() -> usize {
     // SAFETY: it takes nothing.
     unsafe { header::qv_record_size() }
 }
 
-/// `qv_known_record`.
+/// `qv_known_record`, for tests/layout.rs alone.
+#[allow(dead_code)]
 #[inline]
 pub fn known_record() -> Record {
     // SAFETY: it takes nothing; the layout is the header's, see the assertions above.

@@ -6,27 +6,38 @@
 //! end.
 //!
 //! The work is done by the static library of include/quic_version.h. Every function answers for
-//! every input. A [`Refusal`] is one number of document 01's table; it carries no other value and
-//! leaves lent buffers as found.
+//! every input. A [`Refusal`] is one number of document 01's table, and so is a writer's
+//! [`WriteRefusal`]; it carries no other value and leaves lent buffers as found.
 //!
 //! ```
-//! use quic_version::{Attempt, End};
+//! use quic_version::{
+//!     server_choice, write_information, write_version_negotiation, Attempt, Decision, End, Sender,
+//!     MAX_INFORMATION, MAX_PACKET, VERSION_1, VERSION_2,
+//! };
 //!
-//! // Table 14, 12, 10, best first; the first flight went out in 12.
-//! let mut attempt = Attempt::start(&[14, 12, 10], &[], 12, &[0xd1, 0xd2], &[0x51])?;
+//! // A client that prefers version 2, and whose first flight goes out in it.
+//! let versions = [VERSION_2, VERSION_1];
+//! let mut attempt = Attempt::start(&versions, &[], VERSION_2, &[0xd1, 0xd2], &[0x51])?;
+//! let first_flight = [0xc0, 0x6b, 0x33, 0x43, 0xcf, 2, 0xd1, 0xd2, 1, 0x51];
 //!
-//! // A Version Negotiation packet with our IDs, swapped, that lists 10, 13 and 14.
-//! let packet = [
-//!     0x80, 0, 0, 0, 0, 1, 0x51, 2, 0xd1, 0xd2, 0, 0, 0, 10, 0, 0, 0, 13, 0, 0, 0, 14,
-//! ];
-//! assert_eq!(attempt.datagram(&packet), Ok(14));
-//! assert_eq!(*attempt.own_list(), [14]);
+//! // A server that reads and accepts version 1 alone answers with Version Negotiation.
+//! let table = [VERSION_1];
+//! let decision = server_choice(&table, &table, &[], VERSION_2, None)?;
+//! assert_eq!(decision, Decision::Negotiate);
+//! let mut packet = [0; MAX_PACKET];
+//! let count = write_version_negotiation(&first_flight, &table, 64, &mut packet)?;
 //!
-//! // The handshake authenticated Chosen 14, Available 13 and 14; version 14 is in use.
-//! let information = [0, 0, 0, 14, 0, 0, 0, 13, 0, 0, 0, 14];
-//! assert_eq!(attempt.outcome(14, Some(&information)), Ok(14));
-//! assert_eq!(attempt.end(), End::Completed(14));
-//! # Ok::<(), quic_version::Refusal>(())
+//! // The client acts on the packet: a new first flight, in version 1.
+//! assert_eq!(attempt.datagram(&packet[..count])?, VERSION_1);
+//! assert!(attempt.acted());
+//! assert_eq!(*attempt.own_list(), [VERSION_1]);
+//!
+//! // The handshake, in version 1, authenticates the server's Version Information.
+//! let mut information = [0; MAX_INFORMATION];
+//! let count = write_information(Sender::Server, VERSION_1, &table, &mut information)?;
+//! assert_eq!(attempt.outcome(VERSION_1, Some(&information[..count]))?, VERSION_1);
+//! assert_eq!(attempt.end(), End::Completed(VERSION_1));
+//! # Ok::<(), Box<dyn std::error::Error>>(())
 //! ```
 
 #![deny(missing_docs)]
@@ -38,13 +49,14 @@ mod choice;
 #[allow(unsafe_code)]
 mod ffi;
 mod refusal;
+mod shown;
 mod wire;
 
 pub use attempt::{Attempt, End, OwnList};
 pub use choice::{
     are_pairs, choose, choose_from_bytes, is_reserved, is_table, server_choice, Decision, Pair,
 };
-pub use refusal::Refusal;
+pub use refusal::{Refusal, WriteRefusal};
 pub use wire::{
     read_header, read_information, versions, write_information, write_version_negotiation, Header,
     Information, Sender, Versions,
@@ -55,13 +67,13 @@ pub use wire::{
 #[doc = include_str!("../../docs/INTEGRATION.md")]
 mod walk_throughs {}
 
-/// The functions of the library with their numbers, for this crate's own tests and benchmark. No
-/// part of the interface.
-#[doc(hidden)]
-pub mod raw {
-    pub use crate::ffi::*;
-}
+/// Version 1 (RFC 9000).
+pub const VERSION_1: u32 = 0x0000_0001;
+/// Version 2 (RFC 9369).
+pub const VERSION_2: u32 = 0x6b33_43cf;
 
+/// The release: this crate's version, and that of the library with it.
+pub const RELEASE: &str = env!("CARGO_PKG_VERSION");
 /// The interface that this crate is written for; compare with [`interface_version`].
 pub const INTERFACE_VERSION: u32 = 1;
 /// The most entries of a table of versions.

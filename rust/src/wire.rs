@@ -1,12 +1,14 @@
 //! Datagram headers, Version Negotiation packets and Version Information.
 
 use crate::ffi;
-use crate::refusal::answer;
-use crate::Refusal;
+use crate::refusal::{answer, written};
+use crate::shown::{OnTheWire, Version};
+use crate::{Refusal, WriteRefusal};
+use std::fmt;
 use std::iter::FusedIterator;
 
 /// The parts of a datagram that RFC 8999 fixes for every version.
-#[derive(Clone, Copy, Debug, PartialEq, Eq)]
+#[derive(Clone, Copy, PartialEq, Eq)]
 pub enum Header<'a> {
     /// A long form with a version other than 0.
     Long {
@@ -35,6 +37,40 @@ pub enum Header<'a> {
         /// The versions as they lie on the wire; [`versions`] reads them.
         list: &'a [u8],
     },
+}
+
+impl fmt::Debug for Header<'_> {
+    fn fmt(&self, f: &mut fmt::Formatter<'_>) -> fmt::Result {
+        match self {
+            Header::Long {
+                version,
+                destination,
+                source,
+                rest,
+            } => f
+                .debug_struct("Long")
+                .field("version", &Version(*version))
+                .field("destination", destination)
+                .field("source", source)
+                .field("rest", rest)
+                .finish(),
+            Header::Short { destination, rest } => f
+                .debug_struct("Short")
+                .field("destination", destination)
+                .field("rest", rest)
+                .finish(),
+            Header::VersionNegotiation {
+                destination,
+                source,
+                list,
+            } => f
+                .debug_struct("VersionNegotiation")
+                .field("destination", destination)
+                .field("source", source)
+                .field("list", &OnTheWire(list))
+                .finish(),
+        }
+    }
 }
 
 /// `QV_LONG` and `QV_SHORT`; the third form is Version Negotiation.
@@ -82,7 +118,7 @@ pub fn read_header(datagram: &[u8], told: usize) -> Result<Header<'_>, Refusal> 
 }
 
 /// The versions of a list as it lies on the wire. [`versions`] makes it.
-#[derive(Clone, Debug)]
+#[derive(Clone)]
 pub struct Versions<'a> {
     list: &'a [u8],
     place: usize,
@@ -115,32 +151,42 @@ impl Iterator for Versions<'_> {
 impl ExactSizeIterator for Versions<'_> {}
 impl FusedIterator for Versions<'_> {}
 
+impl fmt::Debug for Versions<'_> {
+    /// Those that are still to come.
+    fn fmt(&self, f: &mut fmt::Formatter<'_>) -> fmt::Result {
+        let left = &self.list[4 * self.place..];
+        f.debug_tuple("Versions").field(&OnTheWire(left)).finish()
+    }
+}
+
 /// Writes the Version Negotiation packet that answers a received datagram: the received IDs
 /// swapped, then the offered table in its order. The answer is the count of bytes written, at most
 /// [`MAX_PACKET`](crate::MAX_PACKET); bytes of the buffer past it keep their values.
 ///
 /// # Errors
 ///
-/// They leave the buffer as found. In this order:
-/// - [`DatagramTooLong`](Refusal::DatagramTooLong) (11): over 65,535 bytes were received;
-/// - [`Truncated`](Refusal::Truncated) (12): the datagram is empty, or a field of a long form runs
-///   past its end;
-/// - [`ShortForm`](Refusal::ShortForm) (21): it has the short form;
-/// - [`VersionNegotiationReceived`](Refusal::VersionNegotiationReceived) (22): it has version 0;
-/// - [`BadOfferedTable`](Refusal::BadOfferedTable) (23): the offered table breaks its rule;
-/// - [`ReceivedVersionOffered`](Refusal::ReceivedVersionOffered) (24): the received version is
+/// They leave the buffer as found, and close nothing. In this order:
+/// - [`DatagramTooLong`](WriteRefusal::DatagramTooLong) (11): over 65,535 bytes were received;
+/// - [`Truncated`](WriteRefusal::Truncated) (12): the datagram is empty, or a field of a long form
+///   runs past its end;
+/// - [`ShortForm`](WriteRefusal::ShortForm) (21): it has the short form;
+/// - [`VersionNegotiationReceived`](WriteRefusal::VersionNegotiationReceived) (22): it has version
+///   0;
+/// - [`BadOfferedTable`](WriteRefusal::BadOfferedTable) (23): the offered table breaks its rule;
+/// - [`ReceivedVersionOffered`](WriteRefusal::ReceivedVersionOffered) (24): the received version is
 ///   offered;
-/// - [`UnusedBitsTooLarge`](Refusal::UnusedBitsTooLarge) (25): `unused_bits` is over 127;
-/// - [`NoRoomForPacket`](Refusal::NoRoomForPacket) (26): the buffer is shorter than the packet.
+/// - [`UnusedBitsTooLarge`](WriteRefusal::UnusedBitsTooLarge) (25): `unused_bits` is over 127;
+/// - [`NoRoomForPacket`](WriteRefusal::NoRoomForPacket) (26): the buffer is shorter than the
+///   packet.
 pub fn write_version_negotiation(
     received: &[u8],
     offered: &[u32],
     unused_bits: u8,
     buffer: &mut [u8],
-) -> Result<usize, Refusal> {
+) -> Result<usize, WriteRefusal> {
     let mut count = 0;
     let number = ffi::write_version_negotiation(received, offered, unused_bits, buffer, &mut count);
-    answer(number, || count)
+    written(number, count)
 }
 
 /// Who sends Version Information. From a client, Chosen must be among Available; from a server it
@@ -163,12 +209,21 @@ impl Sender {
 }
 
 /// Version Information (RFC 9368 section 3) that was read.
-#[derive(Clone, Copy, Debug, PartialEq, Eq)]
+#[derive(Clone, Copy, PartialEq, Eq)]
 pub struct Information<'a> {
     /// The Chosen Version.
     pub chosen: u32,
     /// The Available Versions as they lie on the wire; [`versions`] reads them.
     pub available: &'a [u8],
+}
+
+impl fmt::Debug for Information<'_> {
+    fn fmt(&self, f: &mut fmt::Formatter<'_>) -> fmt::Result {
+        f.debug_struct("Information")
+            .field("chosen", &Version(self.chosen))
+            .field("available", &OnTheWire(self.available))
+            .finish()
+    }
 }
 
 /// Reads Version Information.
@@ -199,19 +254,19 @@ pub fn read_information(sender: Sender, bytes: &[u8]) -> Result<Information<'_>,
 /// # Errors
 ///
 /// They leave the buffer as found, and close nothing. In this order:
-/// - [`InformationTooLong`](Refusal::InformationTooLong) (33): over 255 Available Versions;
-/// - [`ChosenIsZero`](Refusal::ChosenIsZero) (34): Chosen is 0;
-/// - [`AvailableHoldsZero`](Refusal::AvailableHoldsZero) (35): an Available Version is 0;
-/// - [`ChosenNotAvailable`](Refusal::ChosenNotAvailable) (36), from a client only: Chosen is not
-///   among Available;
-/// - [`NoRoomForInformation`](Refusal::NoRoomForInformation) (37): the buffer is too short.
+/// - [`InformationTooLong`](WriteRefusal::InformationTooLong) (33): over 255 Available Versions;
+/// - [`ChosenIsZero`](WriteRefusal::ChosenIsZero) (34): Chosen is 0;
+/// - [`AvailableHoldsZero`](WriteRefusal::AvailableHoldsZero) (35): an Available Version is 0;
+/// - [`ChosenNotAvailable`](WriteRefusal::ChosenNotAvailable) (36), from a client only: Chosen is
+///   not among Available;
+/// - [`NoRoomForInformation`](WriteRefusal::NoRoomForInformation) (37): the buffer is too short.
 pub fn write_information(
     sender: Sender,
     chosen: u32,
     available: &[u32],
     buffer: &mut [u8],
-) -> Result<usize, Refusal> {
+) -> Result<usize, WriteRefusal> {
     let mut count = 0;
     let number = ffi::write_information(sender.number(), chosen, available, buffer, &mut count);
-    answer(number, || count)
+    written(number, count)
 }

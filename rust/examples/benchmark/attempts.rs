@@ -3,7 +3,8 @@
 use crate::measure::{calls, grouped, opaque, same, Table};
 use crate::packet::{in_fours, information, long_packet};
 use crate::plain::PlainAttempt;
-use quic_version::{raw, Attempt, Pair, Refusal, MAX_AVAILABLE, MAX_ID, MAX_PAIRS, MAX_TABLE};
+use crate::{raw, Pair};
+use quic_version::{Attempt, Refusal, MAX_AVAILABLE, MAX_ID, MAX_PAIRS, MAX_TABLE};
 
 pub fn rows(table: &mut Table) {
     starts(table);
@@ -56,6 +57,7 @@ impl Both {
     fn acted(&self, packet: &[u8]) -> Both {
         let (mut library, mut plain) = self.copies();
         assert!(same(library.datagram(packet), plain.datagram(packet)).is_ok());
+        assert!(library.acted());
         Both::of(library, plain)
     }
 
@@ -75,6 +77,17 @@ impl Both {
                 .clone()
                 .datagram(opaque(datagram))
                 .is_ok()),
+        );
+    }
+
+    fn processed_row(&self, table: &mut Table, name: &str) {
+        let (mut library, mut plain) = self.copies();
+        assert!(same(library.packet_processed(), plain.packet_processed()).is_ok());
+        assert!(library.heard());
+        table.row(
+            name,
+            calls!(opaque(&self.library.0).clone().packet_processed().is_ok()),
+            calls!(opaque(&self.plain.0).clone().packet_processed().is_ok()),
         );
     }
 
@@ -188,13 +201,7 @@ fn small_events(table: &mut Table) {
         &other,
         Err(61),
     );
-    let (mut library, mut plain) = begun.copies();
-    assert!(same(library.packet_processed(), plain.packet_processed()).is_ok());
-    table.row(
-        "event: packet processed",
-        calls!(opaque(&begun.library.0).clone().packet_processed().is_ok()),
-        calls!(opaque(&begun.plain.0).clone().packet_processed().is_ok()),
-    );
+    begun.processed_row(table, "event: packet processed");
     begun.acted(&packet).outcome_row(
         table,
         "event: outcome after acting, completes (12 bytes)",
@@ -212,8 +219,8 @@ fn unknown_but(last: u32, count: usize) -> Vec<u32> {
 /// No event has this kind.
 const UNKNOWN_KIND: u32 = 4;
 
-/// Events on a record without an unused place, on their longest way: the peer has one version of
-/// ours, the last of the table but the Original.
+/// Events on a record without an unused place, on their longest way: the attempt begins with the
+/// last version of its table, and the peer has one version of ours, the one before it.
 fn full_events(table: &mut Table) {
     let (versions, pairs) = full();
     let (shared, original) = (versions[MAX_TABLE - 2], versions[MAX_TABLE - 1]);
@@ -228,6 +235,7 @@ fn full_events(table: &mut Table) {
         MAX_TABLE
     );
     begun.datagram_row(table, &name, &packet, Ok(shared));
+    begun.processed_row(table, "event: packet processed, full table");
 
     let bytes = information(shared, &unknown_but(shared, MAX_AVAILABLE));
     let name = format!(

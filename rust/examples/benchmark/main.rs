@@ -17,9 +17,13 @@ mod measure;
 #[path = "../../tests/random/packet.rs"]
 mod packet;
 mod plain;
+#[allow(dead_code)]
+#[path = "../../src/ffi.rs"]
+mod raw;
 mod wire;
 
 use measure::Table;
+use quic_version::Pair;
 use std::env;
 use std::process::exit;
 

@@ -13,9 +13,13 @@ mod edges;
 mod model;
 #[path = "../random/mod.rs"]
 mod random;
+#[allow(dead_code)]
+#[path = "../../src/ffi.rs"]
+mod raw;
 mod seeded;
 mod seen;
 
+use quic_version::Pair;
 use seen::Seen;
 use std::env;
 use std::io::Write;

@@ -1,6 +1,6 @@
 //! The tally of a run: how often each number was seen, and how often each function was called.
 
-use quic_version::Refusal;
+use quic_version::{Refusal, WriteRefusal};
 use std::collections::BTreeMap;
 
 /// Document 01's numbers.
@@ -46,17 +46,25 @@ impl Seen {
     pub fn table(&self) -> String {
         let mut text = String::from("\n  number      seen  cause\n");
         for (number, count) in &self.numbers {
-            let refusal = u8::try_from(*number).ok().and_then(Refusal::from_number);
-            let cause = match refusal {
-                Some(refusal) => refusal.to_string(),
-                None => String::from("no refusal"),
-            };
-            text += &format!("  {:>6} {:>9}  {}\n", number, count, cause);
+            text += &format!("  {:>6} {:>9}  {}\n", number, count, cause(*number));
         }
         text += "\n  compared  function\n";
         for (function, count) in &self.functions {
             text += &format!("  {:>8}  {}\n", count, function);
         }
         text + &format!("  {:>8}  in all\n", self.cases())
+    }
+}
+
+/// The words for a number of the library.
+fn cause(number: u32) -> String {
+    let number = u8::try_from(number).unwrap_or(u8::MAX);
+    match (
+        Refusal::from_number(number),
+        WriteRefusal::from_number(number),
+    ) {
+        (Some(refusal), _) => refusal.to_string(),
+        (None, Some(refusal)) => refusal.to_string(),
+        (None, None) => String::from("no refusal"),
     }
 }

@@ -2,7 +2,7 @@
 
 use super::{number, paired, plain, same, Compared, FOUND};
 use crate::model::{self, Event, MAX_TABLE};
-use quic_version::raw::{self, Record};
+use crate::raw::{self, Record};
 use quic_version::{Attempt, End, Refusal};
 
 /// The record that the header describes for a model's attempt.
@@ -77,6 +77,9 @@ fn end_of(end: model::End) -> End {
 fn check_attempt(attempt: &Attempt, model: &model::Attempt) -> Result<(), String> {
     same("attempted", attempt.attempted(), model.attempted)?;
     same("original", attempt.original(), model.original)?;
+    same("table", attempt.table(), &model.table[..])?;
+    same("acted", attempt.acted(), model.acted)?;
+    same("heard", attempt.heard(), model.heard)?;
     same("end", attempt.end(), end_of(model.end))?;
     same("own_list", attempt.own_list().to_vec(), model.own_list())
 }

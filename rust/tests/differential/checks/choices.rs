@@ -1,8 +1,8 @@
 //! The rules of tables and pairs, and the choices.
 
 use super::{number, paired, plain, same, Compared, FOUND};
-use crate::model;
-use quic_version::{self as library, raw, Decision};
+use crate::{model, raw};
+use quic_version::{self as library, Decision};
 
 pub fn check_is_reserved(version: u32) -> Compared {
     let model = model::is_reserved(version);

@@ -3,7 +3,7 @@
 use super::attempts::raw_event;
 use super::{paired, same, Compared};
 use crate::model::{Event, MAX_ID, MAX_TABLE};
-use quic_version::raw::{self, Record};
+use crate::raw::{self, Record};
 
 /// The damages of `check_damaged`.
 pub const DAMAGES: usize = 9;

@@ -13,8 +13,8 @@ pub use damaged::*;
 pub use paste::Paste;
 pub use wire::*;
 
-use crate::model;
-use quic_version::{raw, Pair, Refusal};
+use crate::{model, raw, Pair};
+use quic_version::Refusal;
 
 /// What lent places hold before a call. Each call is made once with each.
 const FOUND: [u32; 2] = [0x5a5a_5a5a, 0xc3c3_c3c3];

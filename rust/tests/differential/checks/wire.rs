@@ -2,7 +2,8 @@
 
 use super::{number, plain, same, Compared, FOUND};
 use crate::model::{self, Header};
-use quic_version::{self as library, raw, Refusal, Sender};
+use crate::raw;
+use quic_version::{self as library, Sender, WriteRefusal};
 
 /// What the reader leaves for a header: form, version and places.
 fn places_of(header: &Header) -> (u32, u32, [usize; 6]) {
@@ -103,11 +104,11 @@ fn check_writer(
 fn check_own_writer(
     room: usize,
     model: &Result<Vec<u8>, u8>,
-    write: &dyn Fn(&mut [u8]) -> Result<usize, Refusal>,
+    write: &dyn Fn(&mut [u8]) -> Result<usize, WriteRefusal>,
 ) -> Result<(), String> {
     let counted = model.as_ref().map(Vec::len).map_err(|no| *no);
-    let answer = write(&mut vec![0x77; room]);
-    same("answer of the crate", plain(answer), counted)
+    let answer = write(&mut vec![0x77; room]).map_err(WriteRefusal::number);
+    same("answer of the crate", answer, counted)
 }
 
 pub fn check_write_version_negotiation(

@@ -1,0 +1,57 @@
+//! One release number: in Cargo.toml, the C header, the pkg-config file and CHANGELOG.md.
+
+use std::fs;
+use std::path::Path;
+
+/// A file of the repository.
+fn file(path: &str) -> String {
+    let path = Path::new(env!("CARGO_MANIFEST_DIR")).join("..").join(path);
+    fs::read_to_string(&path).unwrap_or_else(|error| panic!("{}: {}", path.display(), error))
+}
+
+/// What follows `start` in the first line that begins so.
+fn after<'a>(text: &'a str, start: &str) -> Option<&'a str> {
+    text.lines().find_map(|line| line.strip_prefix(start))
+}
+
+#[test]
+fn of_the_crate() {
+    assert_eq!(quic_version::RELEASE, env!("CARGO_PKG_VERSION"));
+    let quoted = format!("\"{}\"", quic_version::RELEASE);
+    assert_eq!(
+        after(&file("rust/Cargo.toml"), "version = "),
+        Some(&quoted[..])
+    );
+}
+
+#[test]
+#[ignore = "the header gets QV_RELEASE"]
+fn of_the_header() {
+    let header = file("include/quic_version.h");
+    let text = after(&header, "#define QV_RELEASE ");
+    let quoted = format!("\"{}\"", quic_version::RELEASE);
+    assert_eq!(
+        text.and_then(|t| t.split_whitespace().next()),
+        Some(&quoted[..])
+    );
+}
+
+#[test]
+#[ignore = "the pkg-config file is to come"]
+fn of_the_pkg_config_file() {
+    let template = file("include/quic-version.pc.in");
+    let version = after(&template, "Version:").map(str::trim);
+    assert_eq!(version, Some(quic_version::RELEASE));
+}
+
+/// The first heading that is a release: work since the last one may stand above it.
+#[test]
+#[ignore = "CHANGELOG.md gets its first release"]
+fn of_the_changes() {
+    let changes = file("CHANGELOG.md");
+    let headings = changes.lines().filter_map(|line| line.strip_prefix("## "));
+    let release = headings
+        .filter_map(|heading| heading.split_whitespace().next())
+        .find(|word| *word != "Unreleased");
+    assert_eq!(release, Some(quic_version::RELEASE));
+}
