@@ -396,10 +396,12 @@ static inline const char *qv_refusal_text(uint32_t number)
     case QV_LISTS_ORIGINAL: return "the packet lists the Original Version";
     case QV_NO_VERSION_LEFT: return "the packet lists no version of ours; the attempt has ended";
     case QV_INFORMATION_MISSING:
-        return "Version Information is missing after Version Negotiation, and version 1 is not attempted";
+        return "Version Information is missing after Version Negotiation, and version 1 is not "
+               "attempted";
     case QV_CHOSEN_NOT_OURS: return "the Chosen Version is not in our own list";
     case QV_CHOSEN_NOT_IN_USE:
-        return "the Chosen Version, or the attempted one where it is missing, is not the version in use";
+        return "the Chosen Version, or the attempted one where it is missing, is not the version "
+               "in use";
     case QV_AVAILABLE_EMPTY:
         return "the server's Available Versions are empty after Version Negotiation";
     case QV_DOWNGRADED:

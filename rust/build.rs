@@ -6,12 +6,14 @@
 use std::env;
 use std::ffi::OsString;
 use std::fs;
-use std::io::ErrorKind;
+use std::io::{self, ErrorKind};
 use std::path::{Path, PathBuf};
 use std::process::{exit, Command};
 
 const ARCHIVE: &str = "libc_interface.a";
 const FOLDER_VARIABLE: &str = "QUIC_VERSION_LIB_DIR";
+/// The function whose name has the number of the interface that this crate is written for.
+const INTERFACE: &str = "qv_interface_2";
 
 fn main() {
     println!("cargo:rerun-if-changed=build.rs");
@@ -27,6 +29,9 @@ fn main() {
         Some(folder) => given(Path::new(&folder)),
         None => proved(),
     };
+    if let Err(error) = fits(&archive) {
+        stop(&format!("{}: {}", archive.display(), error));
+    }
     // A copy, so that what `rt ci` removes is not missed by the next build.
     let out = PathBuf::from(variable("OUT_DIR"));
     if let Err(error) = fs::copy(&archive, out.join(ARCHIVE)) {
@@ -71,6 +76,17 @@ fn proved() -> PathBuf {
         Err(error) => stop(&format!("`rt` could not be run: {}", error)),
     }
     root.join("target").join("staticlib").join(ARCHIVE)
+}
+
+/// Whether the archive has the interface of this crate: its symbols are names that end in a 0.
+fn fits(archive: &Path) -> io::Result<()> {
+    let symbol = [INTERFACE.as_bytes(), &[0]].concat();
+    let bytes = fs::read(archive)?;
+    if bytes.windows(symbol.len()).any(|name| name == symbol) {
+        return Ok(());
+    }
+    let other = format!("a library of another interface, without {}", INTERFACE);
+    Err(io::Error::new(ErrorKind::InvalidData, other))
 }
 
 fn variable(name: &str) -> OsString {

@@ -86,7 +86,8 @@ impl Attempt {
     ///
     /// In this order:
     /// - [`NotVersionNegotiation`](Refusal::NotVersionNegotiation) (61), which leaves the attempt
-    ///   as found: hand the datagram on to packet protection;
+    ///   as found: any other packet. Hand it on to packet protection if it has the short form, or a
+    ///   version of the own list;
     /// - [`TooLate`](Refusal::TooLate) (62), which leaves it as found: the attempt has ended, or
     ///   acted or heard before;
     /// - [`OtherConnection`](Refusal::OtherConnection) (63), which leaves it as found: the packet's

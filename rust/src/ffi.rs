@@ -99,9 +99,10 @@ mod header {
 
     extern "C" {
         pub fn qv_interface_version() -> u32;
+        pub fn qv_interface_2() -> u32;
         pub fn qv_record_size() -> usize;
         pub fn qv_known_record() -> Record;
-        pub fn qv_close_code(refusal: u8, call: u32) -> u64;
+        pub fn qv_close_code(refusal: u32, call: u32) -> u64;
         pub fn qv_is_reserved(version: u32) -> u32;
         pub fn qv_is_table(table: *const u32, table_len: usize) -> u32;
         pub fn qv_are_pairs(pairs: *const Pair, pairs_len: usize) -> u32;
@@ -194,11 +195,25 @@ mod header {
     }
 }
 
+/// A reference to the function whose name has the interface's number, so that a program does not
+/// link with a library of another interface. With Rust 1.63, GNU ld drops it as unused; so build.rs
+/// looks for the name, too.
+#[used]
+static INTERFACE: unsafe extern "C" fn() -> u32 = header::qv_interface_2;
+
 /// `qv_interface_version`.
 #[inline]
 pub fn interface_version() -> u32 {
     // SAFETY: it takes nothing.
     unsafe { header::qv_interface_version() }
+}
+
+/// `qv_interface_2`, for tests/layout.rs alone.
+#[allow(dead_code)]
+#[inline]
+pub fn interface_2() -> u32 {
+    // SAFETY: it takes nothing.
+    unsafe { header::qv_interface_2() }
 }
 
 /// `qv_record_size`, for tests/layout.rs alone.
@@ -219,7 +234,7 @@ pub fn known_record() -> Record {
 
 /// `qv_close_code`.
 #[inline]
-pub fn close_code(refusal: u8, call: u32) -> u64 {
+pub fn close_code(refusal: u32, call: u32) -> u64 {
     // SAFETY: it takes numbers alone.
     unsafe { header::qv_close_code(refusal, call) }
 }

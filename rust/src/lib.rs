@@ -74,8 +74,8 @@ pub const VERSION_2: u32 = 0x6b33_43cf;
 
 /// The release: this crate's version, and that of the library with it.
 pub const RELEASE: &str = env!("CARGO_PKG_VERSION");
-/// The interface that this crate is written for; compare with [`interface_version`].
-pub const INTERFACE_VERSION: u32 = 1;
+/// The interface that this crate is written for. With a library of another one it does not link.
+pub const INTERFACE_VERSION: u32 = 2;
 /// The most entries of a table of versions.
 pub const MAX_TABLE: usize = ffi::MAX_TABLE;
 /// The most pairs of a table of compatible pairs.
@@ -98,7 +98,7 @@ pub const MAX_AVAILABLE: usize = 255;
 /// too short.
 pub const MAX_PACKET: usize = 7 + 2 * MAX_CONNECTION_ID + 4 * MAX_TABLE;
 
-/// The version of the library's interface.
+/// The version of the library's interface: [`INTERFACE_VERSION`].
 pub fn interface_version() -> u32 {
     ffi::interface_version()
 }

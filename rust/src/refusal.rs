@@ -39,12 +39,12 @@ macro_rules! words {
     (63) => { "the connection IDs of the packet are not ours, swapped" };
     (64) => { "the packet lists the Original Version" };
     (65) => { "the packet lists no version of ours; the attempt has ended" };
-    (71) => { "Version Information is missing after Version Negotiation" };
+    (71) => { "Version Information is missing after Version Negotiation, and version 1 is not attempted" };
     (72) => { "the Chosen Version is not in our own list" };
-    (73) => { "the Chosen Version is not the version in use" };
+    (73) => { "the Chosen Version, or the attempted one where it is missing, is not the version in use" };
     (74) => { "the server's Available Versions are empty after Version Negotiation" };
     (75) => { "the server's Available Versions lead to another choice than the attempted version" };
-    (255) => { "an unknown kind, or a record that no attempt has" };
+    (255) => { "an unknown kind, or a record that could not be an attempt's" };
 }
 
 /// A type of refusals: its numbers, each under a name for its cause.
@@ -192,7 +192,7 @@ impl Refusal {
     /// 20.1), for 31 to 36; 0x11, VERSION_NEGOTIATION_ERROR (RFC 9368 section 10.2), for 51 and 71
     /// to 75; `None` for all others.
     pub fn close_code(self) -> Option<u64> {
-        match ffi::close_code(self.number(), READING) {
+        match ffi::close_code(u32::from(self.number()), READING) {
             0 => None,
             code => Some(code),
         }

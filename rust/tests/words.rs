@@ -155,7 +155,6 @@ fn cases(header: &str) -> Option<Vec<(String, String)>> {
 }
 
 #[test]
-#[ignore = "the header gets qv_refusal_text"]
 fn words_of_the_header() {
     let found = cases(&header());
     assert!(

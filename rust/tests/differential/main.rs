@@ -7,6 +7,7 @@
 //! buffer, twice, with different values in them before the call. It answers the number that was
 //! seen, or what differs. A failing case is printed as such a call, to paste into a test of edges/.
 
+mod any_record;
 mod checks;
 mod edges;
 #[path = "../model/mod.rs"]

@@ -37,7 +37,7 @@ pub const MAX_UNUSED_BITS: u8 = 127;
 
 /// The close code of a refusal: 0x08 for 31 to 36, 0x11 for 51 and 71 to 75.
 /// "A writer's 33 to 36 close nothing"; no writer's refusal has a code.
-pub fn close_code(number: u8, writer: bool) -> Option<u64> {
+pub fn close_code(number: u32, writer: bool) -> Option<u64> {
     match number {
         _ if writer => None,
         31..=36 => Some(0x08),

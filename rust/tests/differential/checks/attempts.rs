@@ -1,5 +1,6 @@
 //! Starts and events: the answer, the whole record and the own list after each.
 
+use super::damaged::check_no_record;
 use super::{number, paired, plain, same, Compared, FOUND};
 use crate::model::{self, Event, MAX_TABLE};
 use crate::raw::{self, Record};
@@ -49,18 +50,18 @@ fn blank() -> Record {
     }
 }
 
-/// The own list of a record, past its count too.
+/// The own list of a record; places past its count are left as found.
 fn check_own_list(record: &Record, own: &[u32]) -> Result<(), String> {
-    let mut padded = [0; MAX_TABLE];
-    padded[..own.len()].copy_from_slice(own);
     for found in FOUND {
         let (mut versions, mut count) = ([found; MAX_TABLE], found as usize);
+        let mut left = versions;
+        left[..own.len()].copy_from_slice(own);
         same(
             "own list's answer",
             raw::own_list(record, &mut versions, &mut count),
             0,
         )?;
-        same("own list", (versions, count), (padded, own.len()))?;
+        same("own list", (versions, count), (left, own.len()))?;
     }
     Ok(())
 }
@@ -97,10 +98,10 @@ pub fn check_start(
     same("answer", started.refusal, number(&model))?;
     let record = model.as_ref().map_or_else(|_| blank(), record_of);
     same("record", started.attempt, record)?;
-    let own = model
-        .as_ref()
-        .map_or_else(|_| Vec::new(), model::Attempt::own_list);
-    check_own_list(&started.attempt, &own)?;
+    match &model {
+        Ok(model) => check_own_list(&started.attempt, &model.own_list())?,
+        Err(_) => check_no_record(&started.attempt)?,
+    }
     let attempt = Attempt::start(table, &pairs, original, destination, source);
     match (&attempt, &model) {
         (Ok(attempt), Ok(model)) => check_attempt(attempt, model)?,

@@ -1,12 +1,37 @@
-//! Records that no attempt has and kinds that no event has: 255, and all is left as found.
+//! Records that no attempt has and kinds that no event has: 255, and all is left as found; and what
+//! an event does to any record value.
 
 use super::attempts::raw_event;
-use super::{paired, same, Compared};
+use super::{paired, same, Compared, FOUND};
 use crate::model::{Event, MAX_ID, MAX_TABLE};
 use crate::raw::{self, Record};
 
 /// The damages of `check_damaged`.
-pub const DAMAGES: usize = 9;
+pub const DAMAGES: usize = 11;
+
+/// What is judged of a record: counts, flags and marks, and that the attempted version is in the
+/// table.
+fn is_record(record: &Record) -> bool {
+    let end_fits = match record.end_mark {
+        0 => record.end_value == 0,
+        1 => true,
+        2 => record.end_value <= 255,
+        _ => false,
+    };
+    record.table_len as usize <= MAX_TABLE
+        && record.destination_len as usize <= MAX_ID
+        && record.source_len as usize <= MAX_ID
+        && record.acted <= 1
+        && record.heard <= 1
+        && end_fits
+        && record.unused == 0
+        && table_of(record).contains(&record.attempted)
+}
+
+/// The table of a record whose counts are within its arrays.
+fn table_of(record: &Record) -> &[u32] {
+    &record.table[..record.table_len as usize]
+}
 
 /// `record` with one field that no attempt has. The lowest `value` gives the first number that is
 /// not allowed.
@@ -27,7 +52,17 @@ fn damage(record: &mut Record, field: usize, value: u32) {
             record.end_mark = 2;
             record.end_value = over(255);
         }
-        _ => record.unused = over(0),
+        8 => record.unused = over(0),
+        // The attempted version is not in the table.
+        9 => {
+            let outside = (value..=u32::MAX).find(|v| !table_of(record).contains(v));
+            record.attempted = outside.unwrap_or(0);
+        }
+        // It is where the table has ended.
+        _ => {
+            let place = table_of(record).iter().position(|v| *v == record.attempted);
+            record.table_len = place.unwrap() as u32;
+        }
     }
 }
 
@@ -44,12 +79,40 @@ fn record_after(table: &[u32], pairs: &[(u32, u32)], original: u32, events: &[Ev
 fn check_not_valid(found: Record, kind: u32) -> Result<(), String> {
     let packet = [0x80, 0, 0, 0, 0, 0, 0, 0, 0, 0, 14];
     for bytes in [&packet[..], &[0, 0, 0, 14], &[]] {
-        let mut record = found;
-        let answer = raw::event(&mut record, kind, 14, bytes);
-        same("event's answer", answer, 255)?;
-        same("record", record, found)?;
+        for value in [14, found.attempted] {
+            let mut record = found;
+            let answer = raw::event(&mut record, kind, value, bytes);
+            same("event's answer", answer, 255)?;
+            same("record", record, found)?;
+        }
     }
     Ok(())
+}
+
+/// 255 from the own list, and the lent places are left as found.
+fn check_no_own_list(record: &Record) -> Result<(), String> {
+    for found in FOUND {
+        let (mut versions, mut count) = ([found; MAX_TABLE], found as usize);
+        same(
+            "own list's answer",
+            raw::own_list(record, &mut versions, &mut count),
+            255,
+        )?;
+        same(
+            "own list",
+            (versions, count),
+            ([found; MAX_TABLE], found as usize),
+        )?;
+    }
+    Ok(())
+}
+
+/// 255 from every call with this record, and all is left as found.
+pub fn check_no_record(record: &Record) -> Result<(), String> {
+    for kind in 0..4 {
+        check_not_valid(*record, kind)?;
+    }
+    check_no_own_list(record)
 }
 
 /// A record after a start and some events, then damaged in one field: 255 from an event and from
@@ -65,18 +128,9 @@ pub fn check_damaged(
 ) -> Compared {
     let mut record = record_after(table, pairs, original, events);
     damage(&mut record, field, value);
+    same("is_record", is_record(&record), false)?;
     check_not_valid(record, kind)?;
-    let (mut versions, mut count) = ([value; MAX_TABLE], value as usize);
-    same(
-        "own list's answer",
-        raw::own_list(&record, &mut versions, &mut count),
-        255,
-    )?;
-    same(
-        "own list",
-        (versions, count),
-        ([value; MAX_TABLE], value as usize),
-    )?;
+    check_no_own_list(&record)?;
     Ok(255)
 }
 
@@ -90,4 +144,44 @@ pub fn check_unknown_kind(
 ) -> Compared {
     check_not_valid(record_after(table, pairs, original, events), kind)?;
     Ok(255)
+}
+
+/// An event on any record value whatever: 255 exactly where it has to be, and all is left as found;
+/// else the record stays one, and is completed with a version of its table alone.
+pub fn check_any_record(found: &Record, kind: u32, value: u32, bytes: &[u8]) -> Compared {
+    let mut record = *found;
+    let answer = raw::event(&mut record, kind, value, bytes);
+    if !is_record(found) {
+        check_no_own_list(found)?;
+    }
+    if !is_record(found) || kind > 3 {
+        same("answer", answer, 255)?;
+        same("record", record, *found)?;
+        return Ok(255);
+    }
+    same("255", answer == 255, false)?;
+    same("a record after the event", is_record(&record), true)?;
+    let mut left = *found;
+    if found.end_mark == 0 {
+        // All that an event may change.
+        left.attempted = record.attempted;
+        left.acted = record.acted;
+        left.heard = record.heard;
+        left.end_mark = record.end_mark;
+        left.end_value = record.end_value;
+    }
+    same("record", record, left)?;
+    let ended = found.end_mark == 0 && record.end_mark != 0;
+    if ended && record.end_mark == 1 {
+        same("completed, answer and kind", (answer, kind >= 2), (0, true))?;
+        same("completed with", record.end_value, value)?;
+        same("in the table", table_of(found).contains(&value), true)?;
+    } else if ended {
+        same("closed with", record.end_value, answer)?;
+    }
+    let (mut own, mut count) = ([0; MAX_TABLE], 0);
+    let number = raw::own_list(&record, &mut own, &mut count);
+    let in_table = own[..count].iter().all(|v| table_of(&record).contains(v));
+    same("own list", (number, in_table), (0, true))?;
+    Ok(answer)
 }

@@ -49,14 +49,19 @@ fn paired(pairs: &[(u32, u32)]) -> Vec<Pair> {
     pairs.iter().map(|pair| Pair::from(*pair)).collect()
 }
 
-pub fn check_close_code(refusal: u8, call: u32) -> Compared {
-    let model = model::close_code(refusal, call != 0);
-    same(
-        "close code",
-        raw::close_code(refusal, call),
-        model.unwrap_or(0),
-    )?;
-    if let (0, Some(refusal)) = (call, Refusal::from_number(refusal)) {
+/// `QV_UNKNOWN_CALL`.
+const UNKNOWN_CALL: u64 = u64::MAX;
+
+/// `call` is 0 for a call that reads, 1 for a writer; else `UNKNOWN_CALL` is due.
+pub fn check_close_code(refusal: u32, call: u32) -> Compared {
+    let model = model::close_code(refusal, call == 1);
+    let code = match call {
+        0 | 1 => model.unwrap_or(0),
+        _ => UNKNOWN_CALL,
+    };
+    same("close code", raw::close_code(refusal, call), code)?;
+    let known = u8::try_from(refusal).ok().and_then(Refusal::from_number);
+    if let (0, Some(refusal)) = (call, known) {
         same("close_code", refusal.close_code(), model)?;
     }
     Ok(0)

@@ -23,9 +23,12 @@ fn limits() {
 
 #[test]
 fn every_close_code() {
-    for number in 0..=u8::MAX {
-        for call in [0, 1, 2, 255, 256, 1 << 31, u32::MAX] {
-            check_close_code(number, call).unwrap();
+    // Past 255 too: a number that is cut to its low byte or half would have a code.
+    for number in 0..=u32::from(u8::MAX) {
+        for number in [number, number | 1 << 8, number | 1 << 16, number | 1 << 31] {
+            for call in [0, 1, 2, 255, 256, 1 << 31, u32::MAX] {
+                check_close_code(number, call).unwrap();
+            }
         }
     }
 }

@@ -1,0 +1,128 @@
+//! Events on any record value whatever, drawn from a seed.
+
+use crate::checks::check_any_record;
+use crate::model::{MAX_ID, MAX_TABLE};
+use crate::random::{in_fours, information, long_packet, Random};
+use crate::raw::{self, Record};
+use crate::{number_of, Pair, DEFAULT_ROUNDS, DEFAULT_SEED};
+use std::collections::BTreeMap;
+
+#[test]
+fn no_event_completes_outside_the_table() {
+    let rounds = number_of("QUIC_VERSION_ROUNDS", DEFAULT_ROUNDS as u64) as usize;
+    let mut random = Random::new(!number_of("QUIC_VERSION_SEED", DEFAULT_SEED));
+    let mut seen: BTreeMap<(u32, u32), usize> = BTreeMap::new();
+    for _ in 0..rounds {
+        let record = any_record(&mut random);
+        let (kind, value, bytes) = any_event(&mut random, &record);
+        match check_any_record(&record, kind, value, &bytes) {
+            Ok(number) => *seen.entry((kind.min(4), number)).or_insert(0) += 1,
+            Err(difference) => panic!(
+                "{}\n{:?}\nkind {}, value {:#x}, bytes {:?}",
+                difference, record, kind, value, bytes
+            ),
+        }
+    }
+    // Every answer came up that an event of the kind has: 31 to 75 are document 01's.
+    let often = |kind, numbers: &[u32]| {
+        let often = |number| matches!(seen.get(&(kind, number)), Some(count) if *count >= 100);
+        numbers.iter().copied().all(often)
+    };
+    let enough = often(0, &[0, 61, 62, 63, 64, 65, 255])
+        && often(1, &[0, 62, 255])
+        && often(2, &[0, 31, 32, 34, 35, 62, 72, 73, 74, 75, 255])
+        && often(3, &[0, 62, 71, 73, 255])
+        && often(4, &[255]);
+    assert!(rounds < DEFAULT_ROUNDS || enough, "{:?}", seen);
+}
+
+/// The record of a start, or zeroed memory, with up to five fields changed.
+fn any_record(random: &mut Random) -> Record {
+    let mut record = Record::default();
+    if !random.one_in(8) {
+        let c = random.good_start_call();
+        let pairs: Vec<Pair> = c.pairs.iter().map(|pair| Pair::from(*pair)).collect();
+        record = raw::start(&c.table, &pairs, c.original, &c.destination, &c.source).attempt;
+    }
+    for _ in 0..random.below(6) {
+        change(random, &mut record);
+    }
+    record
+}
+
+fn change(random: &mut Random, record: &mut Record) {
+    let version = version_of(random, record);
+    let place = random.below(MAX_TABLE);
+    match random.below(15) {
+        0 => record.table_len = up_to(random, MAX_TABLE as u32),
+        1 => record.destination_len = up_to(random, MAX_ID as u32),
+        2 => record.source_len = up_to(random, MAX_ID as u32),
+        3 | 4 => record.table[place] = version,
+        5 => record.rows[place] = random.next_u64(),
+        6 => record.original = version,
+        7 | 8 => record.attempted = version,
+        9 | 10 => record.acted = up_to(random, 1),
+        11 => record.heard = up_to(random, 1),
+        12 => {
+            record.end_mark = up_to(random, 2);
+            record.end_value = *random.pick(&[0, 0, 75, 255, 256, version]);
+        }
+        13 => record.unused = u32::from(random.one_in(4)),
+        _ => record.source[place] = random.next_u32() as u8,
+    }
+}
+
+/// Mostly one of 0 to `most`.
+fn up_to(random: &mut Random, most: u32) -> u32 {
+    match random.below(16) {
+        0 => most + 1,
+        1 => random.next_u32(),
+        _ => random.below(most as usize + 1) as u32,
+    }
+}
+
+/// A version that the record has somewhere, or another.
+fn version_of(random: &mut Random, record: &Record) -> u32 {
+    let place = random.below(MAX_TABLE);
+    let near = random.below(4);
+    let other = random.version();
+    *random.pick(&[
+        record.attempted,
+        record.attempted,
+        record.attempted,
+        record.original,
+        record.table[place],
+        record.table[near],
+        record.table[near],
+        other,
+    ])
+}
+
+/// Kind, value and bytes of an event that often suits the record.
+fn any_event(random: &mut Random, record: &Record) -> (u32, u32, Vec<u8>) {
+    let kind = match random.below(16) {
+        0 => *random.pick(&[4, 255, 256, 1 << 31, u32::MAX]),
+        n => n as u32 % 4,
+    };
+    let value = version_of(random, record);
+    let entries = random.below(6);
+    let list: Vec<u32> = (0..entries).map(|_| version_of(random, record)).collect();
+    let bytes = match random.below(8) {
+        0 => {
+            let count = random.below(40);
+            random.bytes(count)
+        }
+        _ if kind == 0 => {
+            let destination = &record.source[..record.source_len.min(MAX_ID as u32) as usize];
+            let source = &record.destination[..record.destination_len.min(MAX_ID as u32) as usize];
+            let (destination, source) = match random.below(8) {
+                0 => (source, destination),
+                _ => (destination, source),
+            };
+            long_packet(128, 0, destination, source, &in_fours(&list))
+        }
+        1 | 2 => information(version_of(random, record), &list),
+        _ => information(value, &list),
+    };
+    (kind, value, bytes)
+}
