@@ -72,15 +72,13 @@ informationBytes chosen available = bytesOf chosen ++ listBytes available
 abbrev pub informationLength : List ℕ → ℕ
 informationLength available = versionBytes + versionBytes * length available
 
--- The writer's order: 33, 34, 35, 36, 37
+-- The writer's order: 33, 34, 35, 36 (`senderRules`, as for the reader), 37
 abbrev pub writeRules : Sender → ℕ → List ℕ → ℕ → List Rule
 writeRules sender chosen available room =
     (33 when ltb maxAvailable (length available)) ∷
     (34 when eqb chosen 0) ∷
     (35 when elem 0 available) ∷
-    (36 when isClient sender && not (elem chosen available)) ∷
-    (37 when ltb room (informationLength available)) ∷
-    []
+    (senderRules sender chosen available ++ ((37 when ltb room (informationLength available)) ∷ []))
 
 -- The bytes to write into a buffer that has room for so many bytes
 unfoldable pub informationToWrite : Sender → ℕ → List ℕ → ℕ → Reply (List ℕ)
