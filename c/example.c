@@ -12,26 +12,28 @@
 
 /* The layout, when this is compiled: a false condition is an array of -1 places. */
 #define ASSERT_LAYOUT(name, condition) typedef char name[(condition) ? 1 : -1]
-#define AT(field, place) (offsetof(struct qv_attempt, field) == (place))
-ASSERT_LAYOUT(layout_size, sizeof(struct qv_attempt) == 272);
-ASSERT_LAYOUT(layout_started_size, sizeof(struct qv_started) == 280);
-ASSERT_LAYOUT(layout_refusal, offsetof(struct qv_started, refusal) == 272);
-ASSERT_LAYOUT(layout_pair, sizeof(struct qv_pair) == 8);
-ASSERT_LAYOUT(layout_size_t, sizeof(size_t) == 8);
-ASSERT_LAYOUT(layout_rows, AT(rows, 0));
-ASSERT_LAYOUT(layout_table, AT(table, 128));
-ASSERT_LAYOUT(layout_destination, AT(destination, 192));
-ASSERT_LAYOUT(layout_source, AT(source, 212));
-ASSERT_LAYOUT(layout_table_len, AT(table_len, 232));
-ASSERT_LAYOUT(layout_destination_len, AT(destination_len, 236));
-ASSERT_LAYOUT(layout_source_len, AT(source_len, 240));
-ASSERT_LAYOUT(layout_original, AT(original, 244));
-ASSERT_LAYOUT(layout_attempted, AT(attempted, 248));
-ASSERT_LAYOUT(layout_acted, AT(acted, 252));
-ASSERT_LAYOUT(layout_heard, AT(heard, 256));
-ASSERT_LAYOUT(layout_end_mark, AT(end_mark, 260));
-ASSERT_LAYOUT(layout_end_value, AT(end_value, 264));
-ASSERT_LAYOUT(layout_unused, AT(unused, 268));
+#define AT(field) offsetof(struct qv_attempt, field)
+#define PAST(field) (AT(field) + sizeof(((struct qv_attempt *)0)->field))
+#define FOLLOWS(field, before) ASSERT_LAYOUT(field##_follows, AT(field) == PAST(before))
+ASSERT_LAYOUT(rows_first, AT(rows) == 0);
+FOLLOWS(table, rows);
+FOLLOWS(destination, table);
+FOLLOWS(source, destination);
+FOLLOWS(table_len, source);
+FOLLOWS(destination_len, table_len);
+FOLLOWS(source_len, destination_len);
+FOLLOWS(original, source_len);
+FOLLOWS(attempted, original);
+FOLLOWS(acted, attempted);
+FOLLOWS(heard, acted);
+FOLLOWS(end_mark, heard);
+FOLLOWS(end_value, end_mark);
+FOLLOWS(unused, end_value);
+ASSERT_LAYOUT(unused_last, sizeof(struct qv_attempt) == PAST(unused));
+ASSERT_LAYOUT(refusal_follows, offsetof(struct qv_started, refusal) == sizeof(struct qv_attempt));
+ASSERT_LAYOUT(started_size, sizeof(struct qv_started) == sizeof(struct qv_attempt) + 8);
+ASSERT_LAYOUT(pair_size, sizeof(struct qv_pair) == 8);
+ASSERT_LAYOUT(size_t_size, sizeof(size_t) == 8);
 
 #define EXPECT(condition) expect((condition), #condition, __LINE__)
 
@@ -262,6 +264,29 @@ static void not_valid(void)
     EXPECT(chosen == 7 && decision == 7 && from == 7 && to == 7 && count == 7);
 }
 
+/* The header's limits are the library's. The packet to answer has two IDs of 255 bytes of 255. */
+static void limits(void)
+{
+    uint32_t table[QV_MAX_TABLE + 1];
+    struct qv_pair pairs[QV_MAX_PAIRS + 1];
+    uint8_t received[7 + 2 * QV_MAX_CONNECTION_ID], packet[QV_MAX_PACKET];
+    size_t i, count = 0;
+
+    for (i = 0; i <= QV_MAX_TABLE; i++) {
+        table[i] = (uint32_t)i + 1;
+    }
+    for (i = 0; i <= QV_MAX_PAIRS; i++) {
+        pairs[i].from = 1;
+        pairs[i].to = 2;
+    }
+    memset(received, 255, sizeof received);
+    EXPECT(qv_is_table(table, QV_MAX_TABLE) == 1 && qv_is_table(table, QV_MAX_TABLE + 1) == 0);
+    EXPECT(qv_are_pairs(pairs, QV_MAX_PAIRS) == 1 && qv_are_pairs(pairs, QV_MAX_PAIRS + 1) == 0);
+    EXPECT(qv_write_version_negotiation(received, sizeof received, table, QV_MAX_TABLE, 0, packet,
+                                        sizeof packet, &count) == QV_OK);
+    EXPECT(count == QV_MAX_PACKET);
+}
+
 static void small_calls(void)
 {
     static const uint32_t table[] = {14, 12, 10};
@@ -283,6 +308,7 @@ int main(void)
     size_t count;
 
     layout();
+    limits();
     small_calls();
     count = server(packet);
     server_choice();

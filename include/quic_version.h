@@ -38,7 +38,8 @@ extern "C" {
 #define QV_MAX_UNUSED_BITS 127u     /* the unused bits of a Version Negotiation packet */
 #define QV_MAX_INFORMATION 1024u    /* bytes of Version Information */
 #define QV_MAX_AVAILABLE 255u       /* Available Versions */
-#define QV_MAX_PACKET 581u          /* bytes of a Version Negotiation packet that is written */
+/* Bytes of a Version Negotiation packet that is written. */
+#define QV_MAX_PACKET (7u + 2u * QV_MAX_CONNECTION_ID + 4u * QV_MAX_TABLE)
 
 /* Refusals: document 01's numbers, each with its one cause. */
 #define QV_OK 0u
@@ -139,10 +140,16 @@ uint64_t qv_close_code(uint8_t refusal, uint32_t call);
 /* 1 if the version is reserved (0x?a?a?a?a, RFC 9000 section 15), else 0. */
 uint32_t qv_is_reserved(uint32_t version);
 
-/* 1 if the table keeps its rule (1 to 16 entries, none 0, none reserved, none twice), else 0. */
+/*
+ * 1 if the table keeps its rule (1 to QV_MAX_TABLE entries, none 0, none reserved, none twice),
+ * else 0.
+ */
 uint32_t qv_is_table(const uint32_t *table, size_t table_len);
 
-/* 1 if the pairs keep their rule (0 to 64, no member 0 or reserved, members differ), else 0. */
+/*
+ * 1 if the pairs keep their rule (0 to QV_MAX_PAIRS, no member 0 or reserved, members differ),
+ * else 0.
+ */
 uint32_t qv_are_pairs(const struct qv_pair *pairs, size_t pairs_len);
 
 /*
