@@ -171,7 +171,7 @@ impl fmt::Debug for Attempt {
     }
 }
 
-/// The own list of an attempt; a slice of 1 to 16 versions.
+/// The own list of an attempt; a slice of 1 to [`MAX_TABLE`](crate::MAX_TABLE) versions.
 #[derive(Clone, Copy)]
 pub struct OwnList {
     versions: [u32; MAX_TABLE],

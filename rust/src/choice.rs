@@ -26,14 +26,14 @@ pub fn is_reserved(version: u32) -> bool {
     ffi::is_reserved(version) == 1
 }
 
-/// Whether a table of versions keeps its rule: 1 to 16 entries, none 0, none reserved, none twice.
-/// Its order is preference, best first.
+/// Whether a table of versions keeps its rule: 1 to [`MAX_TABLE`](crate::MAX_TABLE) entries, none 0,
+/// none reserved, none twice. Its order is preference, best first.
 pub fn is_table(table: &[u32]) -> bool {
     ffi::is_table(table) == 1
 }
 
-/// Whether compatible pairs keep their rule: 0 to 64 of them, no member 0 or reserved, no pair of
-/// equal members. A repeated pair is harmless.
+/// Whether compatible pairs keep their rule: 0 to [`MAX_PAIRS`](crate::MAX_PAIRS) of them, no member
+/// 0 or reserved, no pair of equal members. A repeated pair is harmless.
 pub fn are_pairs(pairs: &[Pair]) -> bool {
     ffi::are_pairs(pairs) == 1
 }

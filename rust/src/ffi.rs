@@ -14,7 +14,7 @@ pub const MAX_ID: usize = 20;
 
 /// `struct qv_attempt`. Its fields are read and written by the library alone.
 #[repr(C)]
-#[derive(Clone, Copy, Debug, Default, PartialEq, Eq)]
+#[derive(Clone, Copy, Debug, PartialEq, Eq)]
 pub struct Record {
     /// Bit j of row i: entry j may be answered when entry i is attempted.
     pub rows: [u64; MAX_TABLE],
@@ -24,11 +24,11 @@ pub struct Record {
     pub destination: [u8; MAX_ID],
     /// Our source ID; 0 past its bytes.
     pub source: [u8; MAX_ID],
-    /// 1 to 16.
+    /// 1 to `MAX_TABLE`.
     pub table_len: u32,
-    /// 0 to 20.
+    /// 0 to `MAX_ID`.
     pub destination_len: u32,
-    /// 0 to 20.
+    /// 0 to `MAX_ID`.
     pub source_len: u32,
     /// The Original Version.
     pub original: u32,
@@ -44,6 +44,28 @@ pub struct Record {
     pub end_value: u32,
     /// 0.
     pub unused: u32,
+}
+
+/// Zeros. It can't be derived: arrays of over 32 places have no `Default`.
+impl Default for Record {
+    fn default() -> Self {
+        Record {
+            rows: [0; MAX_TABLE],
+            table: [0; MAX_TABLE],
+            destination: [0; MAX_ID],
+            source: [0; MAX_ID],
+            table_len: 0,
+            destination_len: 0,
+            source_len: 0,
+            original: 0,
+            attempted: 0,
+            acted: 0,
+            heard: 0,
+            end_mark: 0,
+            end_value: 0,
+            unused: 0,
+        }
+    }
 }
 
 /// `struct qv_started`.
@@ -62,10 +84,9 @@ pub struct Started {
 
 /// Bytes of a record.
 pub const RECORD_SIZE: usize = 8 * MAX_TABLE + 4 * MAX_TABLE + 2 * MAX_ID + 4 * 10;
-const _: () = assert!(RECORD_SIZE == 272);
 const _: () = assert!(size_of::<Record>() == RECORD_SIZE);
 const _: () = assert!(align_of::<Record>() == 8);
-const _: () = assert!(size_of::<Started>() == 280);
+const _: () = assert!(size_of::<Started>() == RECORD_SIZE + 8);
 const _: () = assert!(size_of::<Pair>() == 8);
 const _: () = assert!(align_of::<Pair>() == 4);
 const _: () = assert!(size_of::<usize>() == 8);

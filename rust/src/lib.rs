@@ -84,7 +84,7 @@ pub const MAX_INFORMATION: usize = 1_024;
 pub const MAX_AVAILABLE: usize = 255;
 /// The most bytes of a Version Negotiation packet that is written; a buffer of this size is never
 /// too short.
-pub const MAX_PACKET: usize = 581;
+pub const MAX_PACKET: usize = 7 + 2 * MAX_CONNECTION_ID + 4 * MAX_TABLE;
 
 /// The version of the library's interface.
 pub fn interface_version() -> u32 {

@@ -5,9 +5,12 @@
 use quic_version::raw::{self, Record};
 use quic_version::{Attempt, Pair, Refusal};
 use std::mem::size_of;
+use std::ops::Range;
 
-fn place<T>(record: &Record, field: &T) -> usize {
-    field as *const T as usize - record as *const Record as usize
+/// Where a field lies, from its first byte up to, not with, the last.
+fn place<T>(record: &Record, field: &T) -> Range<usize> {
+    let start = field as *const T as usize - record as *const Record as usize;
+    start..start + size_of::<T>()
 }
 
 #[test]
@@ -24,6 +27,7 @@ fn sizes() {
     assert_eq!(size_of::<Attempt>(), size_of::<Record>());
 }
 
+/// Each field begins where the one before it ends, in the order of the header.
 #[test]
 fn places_of_the_fields() {
     let record = raw::known_record();
@@ -43,19 +47,21 @@ fn places_of_the_fields() {
         place(&record, &record.end_value),
         place(&record, &record.unused),
     ];
-    assert_eq!(
-        places,
-        [0, 128, 192, 212, 232, 236, 240, 244, 248, 252, 256, 260, 264, 268]
-    );
+    let mut end = 0;
+    for place in &places {
+        assert_eq!(place.start, end, "{:?}", places);
+        end = place.end;
+    }
+    assert_eq!(end, raw::record_size());
 }
 
 #[test]
 fn known_record_field_by_field() {
     let record = raw::known_record();
-    assert_eq!(record.rows, [0x1112_1314_1516_1718; 16]);
-    assert_eq!(record.table, [0x2122_2324; 16]);
-    assert_eq!(record.destination, [0x31; 20]);
-    assert_eq!(record.source, [0x32; 20]);
+    assert_eq!(record.rows, [0x1112_1314_1516_1718; raw::MAX_TABLE]);
+    assert_eq!(record.table, [0x2122_2324; raw::MAX_TABLE]);
+    assert_eq!(record.destination, [0x31; raw::MAX_ID]);
+    assert_eq!(record.source, [0x32; raw::MAX_ID]);
     assert_eq!(record.table_len, 0x41);
     assert_eq!(record.destination_len, 0x42);
     assert_eq!(record.source_len, 0x43);

@@ -149,7 +149,7 @@ fn packet_writer_refusals() {
 #[test]
 fn longest_packet() {
     let received = long_packet(0, 99, &[7; 255], &[8; 255], &[]);
-    let offered: Vec<u32> = (1..=16).collect();
+    let offered: Vec<u32> = (1..=MAX_TABLE as u32).collect();
     assert_eq!(version_negotiation(&received, &offered, 0, 580), Err(26));
     let sent = version_negotiation(&received, &offered, 0, 581).unwrap();
     assert_eq!(sent, packet(&[8; 255], &[7; 255], &offered));

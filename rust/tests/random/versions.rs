@@ -1,6 +1,7 @@
 //! Versions, tables, pairs and lists.
 
 use super::Random;
+use crate::model::{MAX_PAIRS, MAX_TABLE};
 
 /// Whether a table or a pair may hold a version: not 0, not reserved.
 fn is_plain(version: u32) -> bool {
@@ -74,8 +75,8 @@ impl Random {
         let entries = match self.below(8) {
             0 => 1,
             1..=5 => 2 + self.below(4),
-            6 => 16,
-            _ => 1 + self.below(16),
+            6 => MAX_TABLE,
+            _ => 1 + self.below(MAX_TABLE),
         };
         self.distinct(entries)
     }
@@ -101,10 +102,10 @@ impl Random {
 
     pub fn broken_table(&mut self) -> Vec<u32> {
         let mut table = self.good_table();
-        table.truncate(15);
+        table.truncate(MAX_TABLE - 1);
         match self.below(6) {
             0 => table.clear(),
-            1 => table = self.distinct(17),
+            1 => table = self.distinct(MAX_TABLE + 1),
             2 | 3 => {
                 let again = *self.pick(&table);
                 self.insert(&mut table, again);
@@ -135,8 +136,8 @@ impl Random {
     pub fn good_pairs_among(&mut self, versions: &[u32]) -> Vec<(u32, u32)> {
         let count = match self.below(16) {
             0 | 1 => 0,
-            2 => 64,
-            3 => self.below(65),
+            2 => MAX_PAIRS,
+            3 => self.below(MAX_PAIRS + 1),
             _ => 1 + self.below(8),
         };
         self.pairs_of(count, versions)
@@ -170,7 +171,7 @@ impl Random {
 
     pub fn broken_pairs(&mut self, versions: &[u32]) -> Vec<(u32, u32)> {
         let mut pairs = self.good_pairs_among(versions);
-        pairs.truncate(63);
+        pairs.truncate(MAX_PAIRS - 1);
         let good = self.member(versions);
         let reserved = self.reserved();
         let bad = *self.pick(&[
@@ -182,7 +183,7 @@ impl Random {
             (good, good),
         ]);
         if self.one_in(6) {
-            return self.pairs_of(65, versions);
+            return self.pairs_of(MAX_PAIRS + 1, versions);
         }
         self.insert(&mut pairs, bad);
         pairs

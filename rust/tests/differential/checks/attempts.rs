@@ -1,7 +1,7 @@
 //! Starts and events: the answer, the whole record and the own list after each.
 
 use super::{number, paired, plain, same, Compared, FOUND};
-use crate::model::{self, Event};
+use crate::model::{self, Event, MAX_TABLE};
 use quic_version::raw::{self, Record};
 use quic_version::{Attempt, End, Refusal};
 
@@ -51,10 +51,10 @@ fn blank() -> Record {
 
 /// The own list of a record, past its count too.
 fn check_own_list(record: &Record, own: &[u32]) -> Result<(), String> {
-    let mut padded = [0; 16];
+    let mut padded = [0; MAX_TABLE];
     padded[..own.len()].copy_from_slice(own);
     for found in FOUND {
-        let (mut versions, mut count) = ([found; 16], found as usize);
+        let (mut versions, mut count) = ([found; MAX_TABLE], found as usize);
         same(
             "own list's answer",
             raw::own_list(record, &mut versions, &mut count),

@@ -2,7 +2,7 @@
 
 use super::attempts::raw_event;
 use super::{paired, same, Compared};
-use crate::model::Event;
+use crate::model::{Event, MAX_ID, MAX_TABLE};
 use quic_version::raw::{self, Record};
 
 /// The damages of `check_damaged`.
@@ -11,11 +11,11 @@ pub const DAMAGES: usize = 9;
 /// `record` with one field that no attempt has. The lowest `value` gives the first number that is
 /// not allowed.
 fn damage(record: &mut Record, field: usize, value: u32) {
-    let over = |most: u32| value.max(most + 1);
+    let over = |most: usize| value.max(most as u32 + 1);
     match field {
-        0 => record.table_len = over(16),
-        1 => record.destination_len = over(20),
-        2 => record.source_len = over(20),
+        0 => record.table_len = over(MAX_TABLE),
+        1 => record.destination_len = over(MAX_ID),
+        2 => record.source_len = over(MAX_ID),
         3 => record.acted = over(1),
         4 => record.heard = over(1),
         5 => record.end_mark = over(2),
@@ -66,13 +66,17 @@ pub fn check_damaged(
     let mut record = record_after(table, pairs, original, events);
     damage(&mut record, field, value);
     check_not_valid(record, kind)?;
-    let (mut versions, mut count) = ([value; 16], value as usize);
+    let (mut versions, mut count) = ([value; MAX_TABLE], value as usize);
     same(
         "own list's answer",
         raw::own_list(&record, &mut versions, &mut count),
         255,
     )?;
-    same("own list", (versions, count), ([value; 16], value as usize))?;
+    same(
+        "own list",
+        (versions, count),
+        ([value; MAX_TABLE], value as usize),
+    )?;
     Ok(255)
 }
 

@@ -1,11 +1,25 @@
 //! Whole ranges and edges, without a seed.
 
 use crate::checks::*;
-use crate::model::Event;
+use crate::model::{self, Event};
 
 mod attempts;
 mod choices;
 mod wire;
+
+/// The crate's limits are those of the model, which the library is compared with.
+#[test]
+fn limits() {
+    assert_eq!(quic_version::MAX_TABLE, model::MAX_TABLE);
+    assert_eq!(quic_version::MAX_PAIRS, model::MAX_PAIRS);
+    assert_eq!(quic_version::MAX_LIST, model::MAX_LIST);
+    assert_eq!(quic_version::MAX_ID, model::MAX_ID);
+    assert_eq!(quic_version::MAX_DATAGRAM, model::MAX_DATAGRAM);
+    assert_eq!(quic_version::MAX_CONNECTION_ID, model::MAX_WIRE_ID);
+    assert_eq!(quic_version::MAX_UNUSED_BITS, model::MAX_UNUSED_BITS);
+    assert_eq!(quic_version::MAX_INFORMATION, model::MAX_INFORMATION);
+    assert_eq!(quic_version::MAX_AVAILABLE, model::MAX_AVAILABLE);
+}
 
 #[test]
 fn every_close_code() {

@@ -3,6 +3,7 @@
 use crate::checks::*;
 use crate::model::Event;
 use crate::random;
+use quic_version::MAX_PACKET;
 
 #[test]
 fn every_length_of_a_datagram_cut_short() {
@@ -24,7 +25,7 @@ fn every_length_of_a_datagram_cut_short() {
             ] {
                 check_read_header(cut, told).unwrap();
             }
-            check_write_version_negotiation(cut, &[14, 13], 64, 581).unwrap();
+            check_write_version_negotiation(cut, &[14, 13], 64, MAX_PACKET).unwrap();
         }
     }
 }
@@ -38,7 +39,7 @@ fn longest_datagrams() {
             datagram.resize(length, 1);
             check_read_header(&datagram, 0).unwrap();
             check_read_header(&datagram, 255).unwrap();
-            check_write_version_negotiation(&datagram, &[14, 13], 0, 581).unwrap();
+            check_write_version_negotiation(&datagram, &[14, 13], 0, MAX_PACKET).unwrap();
             let events = [Event::Datagram(datagram)];
             check_events(&[14, 0x0101_0101], &[], 14, &[], &[], &events).unwrap();
         }
