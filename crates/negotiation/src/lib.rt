@@ -26,7 +26,7 @@ use versions::table::is_table;
 // The largest value of the unused bits of a Version Negotiation packet's first byte.
 pub const MAX_UNUSED_BITS: u8 = 127;
 
-// Writes the packet at the buffer's front and answers its byte count, at most 581: first byte 128 plus
+// Writes the packet at the buffer's front and answers its byte count, at most `maxPacket`: first byte 128 plus
 // the unused bits, version 0, the received source connection ID as destination, the received destination
 // connection ID as source (each behind its length), the offered table in its order, big endian. Bytes of
 // the buffer past the count keep their values. Refusals, in order, each of which leaves the buffer as found:

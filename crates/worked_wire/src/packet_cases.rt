@@ -1,6 +1,12 @@
 // "The packet the box sends back": the whole case, and the longest packet.
 use crate::show::packet;
 use crate::show::packet_count;
+use invariants::MAX_CONNECTION_ID;
+use lists::VERSION_BYTES;
+use versions::MAX_TABLE;
+
+// The bytes of the longest packet: two of the longest connection IDs, a full table offered.
+const LONGEST: usize = 7 + 2 * MAX_CONNECTION_ID + VERSION_BYTES * MAX_TABLE;
 
 pub(crate) fn all() {
     whole_case();
@@ -19,15 +25,29 @@ fn whole_case() {
     );
 }
 
-// Each byte of the datagram is 255, and so is the length of each connection ID.
+// Each byte of the datagram is 255, and so is the length of each connection ID. The buffer has no byte more than the
+// packet.
 fn longest() {
     let datagram = [255u8; 517];
-    let offered = [1u32, 2, 3, 4, 5, 6, 7, 8, 9, 10, 11, 12, 13, 14, 15, 16];
-    let mut buffer = [0u8; 581];
+    let offered = full_table();
+    let mut buffer = [0u8; LONGEST];
     packet_count(
-        b"packet for connection IDs of 255 bytes, 16 versions offered: ",
+        b"packet for connection IDs of 255 bytes, a full table offered: ",
         &datagram,
         &offered,
         &mut buffer,
     );
+}
+
+// A table of as many entries as one may have: 1, 2, 3 and so on.
+fn full_table() -> [u32; MAX_TABLE] {
+    let mut table = [0u32; MAX_TABLE];
+    let mut version = 0u32;
+    let mut i = 0;
+    while i < MAX_TABLE {
+        version += 1;
+        table[i] = version;
+        i += 1;
+    }
+    table
 }
