@@ -1,4 +1,5 @@
-//! One release number: in Cargo.toml, the C header, the pkg-config file and CHANGELOG.md.
+//! One release number: in Cargo.toml, the C header, the pkg-config file and CHANGELOG.md. And one
+//! number of the interface.
 
 use std::fs;
 use std::path::Path;
@@ -9,9 +10,10 @@ fn file(path: &str) -> String {
     fs::read_to_string(&path).unwrap_or_else(|error| panic!("{}: {}", path.display(), error))
 }
 
-/// What follows `start` in the first line that begins so.
+/// The word that follows `start` in the first line that begins so.
 fn after<'a>(text: &'a str, start: &str) -> Option<&'a str> {
-    text.lines().find_map(|line| line.strip_prefix(start))
+    let line = text.lines().find_map(|line| line.strip_prefix(start))?;
+    line.split_whitespace().next()
 }
 
 #[test]
@@ -27,19 +29,14 @@ fn of_the_crate() {
 #[test]
 fn of_the_header() {
     let header = file("include/quic_version.h");
-    let text = after(&header, "#define QV_RELEASE ");
     let quoted = format!("\"{}\"", quic_version::RELEASE);
-    assert_eq!(
-        text.and_then(|t| t.split_whitespace().next()),
-        Some(&quoted[..])
-    );
+    assert_eq!(after(&header, "#define QV_RELEASE "), Some(&quoted[..]));
 }
 
 #[test]
 fn of_the_pkg_config_file() {
     let template = file("include/quic-version.pc.in");
-    let version = after(&template, "Version:").map(str::trim);
-    assert_eq!(version, Some(quic_version::RELEASE));
+    assert_eq!(after(&template, "Version:"), Some(quic_version::RELEASE));
 }
 
 /// The first heading that is a release: work since the last one may stand above it.
@@ -51,4 +48,14 @@ fn of_the_changes() {
         .filter_map(|heading| heading.split_whitespace().next())
         .find(|word| *word != "Unreleased");
     assert_eq!(release, Some(quic_version::RELEASE));
+}
+
+#[test]
+fn interface_of_the_header() {
+    let header = file("include/quic_version.h");
+    let number = format!("{}u", quic_version::INTERFACE_VERSION);
+    assert_eq!(
+        after(&header, "#define QV_INTERFACE_VERSION "),
+        Some(&number[..])
+    );
 }
