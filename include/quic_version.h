@@ -149,7 +149,15 @@ uint32_t qv_interface_version(void);
  */
 uint32_t qv_interface_2(void);
 #if defined(__GNUC__)
-static uint32_t (*const qv_linked_interface)(void) __attribute__((used)) = qv_interface_2;
+#if defined(__has_attribute)
+#if __has_attribute(retain)
+#define QV_KEPT __attribute__((used, retain)) /* kept by a linker that drops what nobody uses */
+#endif
+#endif
+#ifndef QV_KEPT
+#define QV_KEPT __attribute__((used))
+#endif
+static uint32_t (*const qv_linked_interface)(void) QV_KEPT = qv_interface_2;
 #endif
 
 /* sizeof(struct qv_attempt) as the library has it. */

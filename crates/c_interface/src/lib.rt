@@ -52,10 +52,7 @@ pub extern "C" fn qv_close_code(refusal: u32, call: u32) -> u64
     if 255 < refusal {
         return 0;
     }
-    code_number(refusals::close_code(
-        Refusal(refusal as u8),
-        call_of(call),
-    ))
+    code_number(refusals::close_code(Refusal(refusal as u8), call_of(call)))
 }
 
 // The kind of a call, by a number.
