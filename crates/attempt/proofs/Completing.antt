@@ -7,7 +7,7 @@ use mathlib.Core.Option.{Option, Option.none, Option.some}
 use mathlib.Core.Path.{_≡_, refl, sym, ap, _∙_}
 use lib.Dec.{eqb}
 use borrow.Author.Tests.{eqb-true, not-false, not-true}
-use Rattle.refusals.specs.Rule.{Rule, Rule._when_, lowest, clear}
+use Rattle.refusals.specs.Rule.{Rule._when_, lowest, clear}
 use Rattle.refusals.proofs.Rules.{both-true, clear-append, lowest-any, lowest-clear}
 use Rattle.versions.specs.Table.{elem}
 use Rattle.choosing.specs.Choice.{preferred}

@@ -1,7 +1,7 @@
 -- The phases of an attempt: not yet acted, acted, ended. Each is told by the end mark, the two flags and what is read
 -- of the start, never by the record as a whole.
 use Prim.Native.Nat.{ℕ}
-use mathlib.Core.Bool.{Bool, true, false, cond, not, _&&_, _||_, Bool·not-not, and-true, and-false, or-true}
+use mathlib.Core.Bool.{Bool, true, false, cond, not, _&&_, Bool·not-not, and-true, and-false, or-true}
 use mathlib.Core.List.{List, [], _∷_, _++_}
 use mathlib.Core.Option.{Option, Option.none, Option.some, Option·some-injective, Option·none-ne-some}
 use mathlib.Core.Path.{_≡_, refl, ap, _∙_}

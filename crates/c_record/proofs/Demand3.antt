@@ -9,7 +9,6 @@ use mathlib.Core.Option.{Option, Option.none, Option.some}
 use mathlib.Core.Path.{_≡_, refl, sym, ap, _∙_}
 use lib.Dec.{eqb}
 use lib.ListN.{take}
-use borrow.Author.Tests.{eqb-true}
 use Rattle.versions.specs.Table.{elem}
 use Rattle.attempt.specs.Attempt.{isCompleted}
 use Rattle.attempt.specs.Demand.{actedWith, Handshake, firstOutcome, Good, CompletedAgainst}

@@ -7,7 +7,7 @@ use mathlib.Core.List.{List, [], _∷_}
 use mathlib.Core.Option.{Option, Option.none, Option.some}
 use mathlib.Core.Path.{_≡_, refl, sym, ap, _∙_}
 use Rattle.information.specs.declared.Presence.the-variants.{Missing, Given}
-use Rattle.attempt.specs.Events.{Handed, run}
+use Rattle.attempt.specs.Events.{run}
 use Rattle.attempt.specs.Start.{Input, isAccepted, startOf}
 use Rattle.attempt.specs.Step.{stepOf}
 use Rattle.attempt.specs.declared.Attempt.{Attempt}

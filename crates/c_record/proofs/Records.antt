@@ -2,18 +2,18 @@
 -- starts and events leave such records.
 use Prim.Native.Nat.{ℕ, _≤_}
 use mathlib.Core.Bool.{Bool, true, false, cond, _&&_}
-use mathlib.Core.List.{List, []}
+use mathlib.Core.List.{List}
 use mathlib.Core.Option.{Option.none, Option.some}
 use mathlib.Core.Path.{_≡_, refl, sym, ap, _∙_}
 use native.Mathlib.Omega.{arith}
 use lib.Dec.{eqb, leb}
-use lib.ListN.{length, replicate, length-take}
+use lib.ListN.{length, length-take}
 use borrow.Author.Tests.{leb-true, ne-eqb, eqb-true, eqb-false}
 use Rattle.refusals.proofs.Rules.{both-true, lowest-applies}
 use Rattle.versions.specs.Limits.{maxTable}
 use Rattle.versions.specs.Table.{elem}
 use Rattle.attempt.specs.Attempt.{tableOf, ownOf}
-use Rattle.attempt.specs.Limits.{maxID, notARecord}
+use Rattle.attempt.specs.Limits.{notARecord}
 use Rattle.attempt.specs.OwnList.{wordOf}
 use Rattle.attempt.specs.Start.{Input, Start, isAccepted, startRules, startOf, refusedStart, openedStart, opened, blank}
 use Rattle.attempt.specs.Step.{unchanged, stepOf, stepOfAny, countsFit, couldBeAttempt}

@@ -53,7 +53,8 @@ pub(crate) fn on_outcome(
 // An outcome on an open attempt, as far as it is judged with no look at the table.
 fn read_outcome(attempt: Attempt, in_use: u32, presence: Presence, information: &[u8]) -> Judgement
     ensures fits { λ r. ⌜ judgementFits (now (information .entry)) r ≡ true ⌝ }
-    ensures judged { λ r. ⌜ judgementAfter attempt «in_use» (now (information .entry)) r ≡ endsBy attempt «in_use» (informationRules attempt «in_use» presence (now (information .entry))) ⌝ }
+    ensures judged { λ r. ⌜ judgementAfter attempt «in_use» (now (information .entry)) r ≡
+        endsBy attempt «in_use» (informationRules attempt «in_use» presence (now (information .entry))) ⌝ }
 {
     match presence {
         Presence::Missing => on_missing(attempt, in_use, information),
@@ -89,7 +90,8 @@ fn on_missing(attempt: Attempt, in_use: u32, information: &[u8]) -> Judgement
 // The information is given: 31 to 35.
 fn on_given(attempt: Attempt, in_use: u32, information: &[u8]) -> Judgement
     ensures fits { λ r. ⌜ judgementFits (now (information .entry)) r ≡ true ⌝ }
-    ensures judged { λ r. ⌜ judgementAfter attempt «in_use» (now (information .entry)) r ≡ endsBy attempt «in_use» (informationRules attempt «in_use» Given (now (information .entry))) ⌝ }
+    ensures judged { λ r. ⌜ judgementAfter attempt «in_use» (now (information .entry)) r ≡
+        endsBy attempt «in_use» (informationRules attempt «in_use» Given (now (information .entry))) ⌝ }
 {
     match read_information(Sender::Server, information) {
         Information::Refused(refusal) => Judgement::Final(Verdict::Closed(refusal)),
@@ -112,7 +114,8 @@ fn judge_read(
     information: &[u8],
 ) -> Verdict
     requires { ⌜ (countsFit attempt ≡ true) × (within available (bytesFor «stands_in» (now information)) ≡ true) ⌝ }
-    ensures { λ r. ⌜ applied attempt r ≡ endsBy attempt «in_use» (outcomeRules attempt «in_use» chosen (versionsIn (bytesFor «stands_in» (now (information .entry))) available)) ⌝ }
+    ensures { λ r. ⌜ applied attempt r ≡
+        endsBy attempt «in_use» (outcomeRules attempt «in_use» chosen (versionsIn (bytesFor «stands_in» (now (information .entry))) available)) ⌝ }
 {
     let stand_in = [0u8, 0, 0, 1];
     let bytes = either(stands_in, &stand_in, information);

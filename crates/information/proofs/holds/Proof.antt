@@ -1,7 +1,7 @@
 -- `holds` meets its contract. The loop's invariant: what was found so far, or the rest of the list, answers for the
 -- whole.
 use Prim.Native.Nat.{_-_, _≤_}
-use mathlib.Core.Bool.{Bool, true, _||_, or-true, or-false}
+use mathlib.Core.Bool.{Bool, _||_, or-true, or-false}
 use mathlib.Core.Logic.{⊎-elim}
 use mathlib.Core.Path.{_≡_, refl, sym, ap, _∙_}
 use native.Mathlib.Omega.{arith}

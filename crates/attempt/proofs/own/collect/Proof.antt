@@ -4,7 +4,6 @@ use mathlib.Core.Logic.{⊎-elim}
 use native.Mathlib.Omega.{arith}
 use denote.Ref.{now}
 use lib.ListN.{length}
-use borrow.Author.Needs.{needs}
 use Rattle.versions.specs.Limits.{maxTable}
 use Rattle.attempt.proofs.Padded.{padded-none}
 use Rattle.attempt.proofs.Walks.{Collected, collected-none, collected-one, collected-no, collected-all}
