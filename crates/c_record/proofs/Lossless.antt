@@ -13,7 +13,7 @@ use Rattle.attempt.specs.Step.{stepOf}
 use Rattle.attempt.specs.declared.Attempt.{Attempt}
 use Rattle.attempt.specs.declared.Event.{Event}
 use Rattle.attempt.specs.declared.Event.the-variants.{Datagram, PacketProcessed, Outcome}
-use Rattle.c_record.specs.Calls.{EventCall, runCalls, eventBefore, eventsOf}
+use Rattle.c_record.specs.Calls.{EventCall, runCalls, eventBefore, eventsOf, kindOf, valueOf}
 use Rattle.c_record.specs.Records.{Left, isRecord, attemptOf, recordOf, eventOf, eventOn, leftAfter, stepRecord, startRecord}
 use Rattle.c_record.specs.declared.Record.{Record}
 use Rattle.c_record.proofs.Records.{attempt-back, RecordFits, is-record, record-fits, step-fits, start-fits}
@@ -33,17 +33,6 @@ unfolding stepRecord
 event-leaves-record r kind value bytes h = rw h (left-record r bytes (eventOf kind value) h)
 
 -- Every event has a call
-
-abbrev pub kindOf : Event → ℕ
-kindOf Datagram = 0
-kindOf PacketProcessed = 1
-kindOf (Outcome v Given) = 2
-kindOf (Outcome v Missing) = 3
-
-abbrev pub valueOf : Event → ℕ
-valueOf Datagram = 0
-valueOf PacketProcessed = 0
-valueOf (Outcome v p) = v
 
 pub event-back : (e : Event) → eventOf (kindOf e) (valueOf e) ≡ some e
 unfolding eventOf

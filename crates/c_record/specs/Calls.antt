@@ -9,7 +9,9 @@ use Rattle.versions.specs.Table.{elem}
 use Rattle.attempt.specs.Demand.{actedWith, Handshake, firstOutcome, VersionInformation, informationOf}
 use Rattle.attempt.specs.Events.{Handed}
 use Rattle.attempt.specs.Start.{Input, isAccepted}
+use Rattle.information.specs.declared.Presence.the-variants.{Missing, Given}
 use Rattle.attempt.specs.declared.Event.{Event}
+use Rattle.attempt.specs.declared.Event.the-variants.{Datagram, PacketProcessed, Outcome}
 use Rattle.c_record.specs.Records.{eventOf, stepRecord, startRecord}
 use Rattle.c_record.specs.declared.Record.{Record}
 
@@ -32,6 +34,18 @@ eventBefore (some e) bytes later = record { event = e; bytes = bytes } ∷ later
 unfoldable pub eventsOf : List EventCall → List Handed
 eventsOf [] = []
 eventsOf (c ∷ calls) = eventBefore (eventOf (c .kind) (c .value)) (c .bytes) (eventsOf calls)
+
+-- The kind and the value of the call for an event
+abbrev pub kindOf : Event → ℕ
+kindOf Datagram = 0
+kindOf PacketProcessed = 1
+kindOf (Outcome v Given) = 2
+kindOf (Outcome v Missing) = 3
+
+abbrev pub valueOf : Event → ℕ
+valueOf Datagram = 0
+valueOf PacketProcessed = 0
+valueOf (Outcome v p) = v
 
 -- "Has completed", read from the end mark of the record
 abbrev pub hasCompleted : Record → Bool

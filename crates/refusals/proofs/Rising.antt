@@ -9,8 +9,20 @@ use mathlib.Core.Option.{Option, Option.none, Option.some, Option·some-injectiv
 use mathlib.Core.Path.{_≡_, refl, sym, ap, _∙_}
 use lib.Dec.{eqb, ltb}
 use borrow.Author.Tests.{eqb-true, eq-eqb, ltb-true}
-use Rattle.refusals.specs.Rule.{Rule, Rule._when_, numberGiven, applies, rising}
+use Rattle.refusals.specs.Rule.{Rule, Rule._when_, lowest, numberGiven, applies, rising}
 use Rattle.refusals.proofs.Rules.{both-true}
+
+-- What a call answers: the refusal of the number that its rules give; where they give none, its other value
+module _ {B : Type 0} (refusal : ℕ → B) (other : B) where
+  pub refusal-given : (rules : List Rule) (n : ℕ) → numberGiven rules ≡ some n → lowest refusal rules other ≡ refusal n
+  refusal-given [] n h = absurd (Option·none-ne-some n h)
+  refusal-given ((m when true) ∷ rules) n h = ap refusal (Option·some-injective m n h)
+  refusal-given ((m when false) ∷ rules) n h = refusal-given rules n h
+
+  pub none-given : (rules : List Rule) → numberGiven rules ≡ none → lowest refusal rules other ≡ other
+  none-given [] h = refl
+  none-given ((m when true) ∷ rules) h = absurd (Option·none-ne-some m (sym h))
+  none-given ((m when false) ∷ rules) h = none-given rules h
 
 -- one of two
 either : {P : Type 0} (a b : Bool) → (a || b) ≡ true → (a ≡ true → P) → (b ≡ true → P) → P
