@@ -111,7 +111,7 @@ abbrev pub decideOn : List ℕ → List ℕ → List (List ℕ) → ℕ → ℕ 
 decideOn readable accepted pairs version presence information =
     forKnown (λ p. decide readable accepted pairs version p information) (presenceOf presence)
 
--- The own list of a record's attempt, 255 for a record that no attempt has
+-- The own list of a record's attempt, 255 for a record that could not be an attempt's (`isRecord`)
 abbrev pub ownAnswer : Record → Reply (List ℕ)
 ownAnswer r = cond (isRecord r) (answered (ownOf (attemptOf r))) (refused notValid Nothing)
 

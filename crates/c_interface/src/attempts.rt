@@ -23,7 +23,7 @@ use versions::MAX_TABLE;
 // One event in place. `kind` is 0 for a datagram, 1 for a processed packet, 2 for an outcome with information given,
 // 3 for one with it missing; `value` is the version in use of an outcome. `bytes` is the datagram, or the information
 // that is given; else it is not read. Refusals, in order:
-// 255 for a record that no attempt has or another kind, which leaves the record as found;
+// 255 for a record that could not be an attempt's or another kind, which leaves the record as found;
 // a datagram: 61, 62, 63, 64, unchanged; 65, which ends the attempt;
 // a processed packet: 62, unchanged;
 // an outcome: 62, unchanged; 31 to 35 and 71 to 75, which end the attempt.
@@ -52,7 +52,7 @@ pub extern "C" fn qv_start(
 }
 
 // The own list of an attempt, for the client's Version Information: its versions and their count; places past it keep
-// their values. Refusal: 255 for a record that no attempt has, which leaves both as found.
+// their values. Refusal: 255 for a record that could not be an attempt's, which leaves both as found.
 #[no_mangle]
 pub extern "C" fn qv_own_list(
     held: Record,

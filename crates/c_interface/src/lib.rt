@@ -1,6 +1,6 @@
 // The library as C sees it: numbers, slices and one enum-free record. A refusal crosses as its number, 0 is
 // none; other results go through lent numbers and buffers, which a refusal leaves as found. No function
-// requires anything: an unknown kind, or a record that no attempt has, gets 255 and leaves all as found.
+// requires anything: an unknown kind, or a record that could not be an attempt's, gets 255 and leaves all as found.
 ghost use mathlib.Core.Option.{Option.some};
 ghost use mathlib.Core.Path.{_≡_};
 ghost use Prim.Native.Nat.{_≤_};

@@ -139,6 +139,6 @@ startRecord x = record { left = recordOf (startOf x .attempt); refusal = refusal
 abbrev pub shownLeft : RecordAndRefusal → Left
 shownLeft s = record { left = s .attempt; refusal = s .refusal }
 
--- The own list of its attempt; the empty list for a record that no attempt has
+-- The own list of its attempt; the empty list for a record that could not be an attempt's
 unfoldable pub ownRecord : Record → OwnList
 ownRecord r = cond (isRecord r) (ownListOf (attemptOf r)) (listInPlaces [])

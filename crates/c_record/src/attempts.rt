@@ -44,7 +44,7 @@ fn start_number(answer: StartAnswer) -> u32
     }
 }
 
-// The own list of an attempt, and whether an attempt has the record. It refuses nothing; a record that no attempt has
+// The own list of an attempt, and whether the record could be an attempt's. It refuses nothing; one that could not
 // gets the empty list.
 pub fn own_of(held: Record) -> KnownOwnList
     ensures known { λ r. ⌜ r .known ≡ isRecord held ⌝ }

@@ -17,7 +17,7 @@ use information::Presence;
 
 // One event: the record that it leaves, and the number of its refusal, 0 for none. `kind` is 0 for a datagram, 1 for a
 // processed packet, 2 for an outcome with information given, 3 for one with it missing; `value` is an outcome's version
-// in use. Refusals, in order: 255 for a record that no attempt has or another kind, which leaves the record as found;
+// in use. Refusals, in order: 255 for a record that could not be an attempt's or another kind, which leaves it as found;
 // a datagram: 61, 62, 63, 64, unchanged, and 65, which ends the attempt; a processed packet: 62, unchanged;
 // an outcome: 62, unchanged, and 31 to 35, 71 to 75, which end the attempt.
 pub fn step_record(held: Record, kind: u32, value: u32, bytes: &[u8]) -> RecordAndRefusal
@@ -43,8 +43,8 @@ pub fn step_record(held: Record, kind: u32, value: u32, bytes: &[u8]) -> RecordA
     }
 }
 
-// What one event does to any record: 255 for one that no attempt has, and for another kind. What `judge` judges of a
-// record value is not tested twice.
+// What one event does to any record: 255 for one that could not be an attempt's, and for another kind. What `judge`
+// judges of a record value is not tested twice.
 fn judge_record(held: Record, kind: u32, value: u32, bytes: &[u8]) -> Verdict
     ensures { λ r. ⌜ appliedRecord held r ≡ stepRecord held kind value (now (bytes .entry)) ⌝ }
 {

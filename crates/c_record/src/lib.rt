@@ -1,5 +1,5 @@
 // The attempt's record without enums, as C keeps it, and the client's functions over it: the start, the events, the
-// own list. No function requires anything: a record that no attempt has gets 255 and stays as found.
+// own list. No function requires anything: a record that could not be an attempt's gets 255 and stays as found.
 pub mod attempts; // the start, the own list
 pub mod coding; // the record of an attempt, and back
 pub mod events; // the events
@@ -43,7 +43,7 @@ pub struct RecordAndRefusal {
     pub refusal: u32,
 }
 
-// The own list of a record's attempt, and whether an attempt has the record at all.
+// The own list of a record's attempt, and whether the record could be an attempt's.
 pub struct KnownOwnList {
     pub known: bool,
     pub list: OwnList,

@@ -1,4 +1,4 @@
--- `own_of` meets its contract: a record that no attempt has gets the empty list, another its attempt's own list.
+-- `own_of` meets its contract: a record that could not be an attempt's gets the empty list, another its own list.
 use mathlib.Core.Bool.{true}
 use mathlib.Core.Path.{_≡_, sym, ap, _∙_}
 use borrow.Author.Needs.{needs}
