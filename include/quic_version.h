@@ -87,7 +87,7 @@ extern "C" {
                                                 attempted version, is not the version in use */
 #define QV_AVAILABLE_EMPTY 74u               /* acted, Available empty */
 #define QV_DOWNGRADED 75u                    /* acted, the renewed choice is not the attempted version */
-#define QV_NOT_VALID 255u                    /* unknown kind; see struct qv_attempt */
+#define QV_NOT_VALID 255u                    /* unknown kind, or a record that fails its tests */
 
 /* Close codes. */
 #define QV_CLOSE_NONE 0u
