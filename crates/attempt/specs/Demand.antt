@@ -17,7 +17,6 @@ use Rattle.attempt.specs.Attempt.{isCompleted}
 use Rattle.attempt.specs.Events.{Handed, run}
 use Rattle.attempt.specs.Start.{Input, ourList, isAccepted, startOf}
 use Rattle.attempt.specs.Step.{otherConnection}
-use Rattle.attempt.specs.declared.Attempt.{Attempt}
 use Rattle.attempt.specs.declared.Event.{Event}
 use Rattle.attempt.specs.declared.Event.the-variants.{Datagram, PacketProcessed, Outcome}
 
@@ -97,12 +96,12 @@ pub record Good (x : Input) (attempted : ℕ) (h : Handshake) : Type 0 where
   pub wouldChoose : preferred (x .table) (information .available ++ (h .inUse ∷ [])) ≡ some attempted
 
 -- A client that acted, completed, and "completed against" this Available list, which holds the version in use. "The
--- list completed against is the first outcome's Available, or its stand-in's." "Has completed" is read from the end
--- mark of a record.
-pub record CompletedBy (left : Attempt) (available : List ℕ) (x : Input) (events : List Handed) (attempted : ℕ) : Type 0 where
+-- list completed against is the first outcome's Available, or its stand-in's." `completed?` is "has completed", as it is
+-- read from the end mark of a record, wherever that lies.
+pub record CompletedBy (completed? : Bool) (available : List ℕ) (x : Input) (events : List Handed) (attempted : ℕ) : Type 0 where
   pub accepted : isAccepted x ≡ true
   pub acted : actedWith x events ≡ some attempted
-  pub completed : isCompleted (left .end) ≡ true
+  pub completed : completed? ≡ true
   pub handshake : Handshake
   pub first : firstOutcome events ≡ some handshake
   pub information : VersionInformation
@@ -112,4 +111,5 @@ pub record CompletedBy (left : Attempt) (available : List ℕ) (x : Input) (even
 
 -- The same by the record that the steps hand back
 abbrev pub CompletedAgainst : List ℕ → Input → List Handed → ℕ → Type 0
-CompletedAgainst available x events attempted = CompletedBy (run (startOf x .attempt) events) available x events attempted
+CompletedAgainst available x events attempted =
+    CompletedBy (isCompleted (run (startOf x .attempt) events .end)) available x events attempted

@@ -2,9 +2,9 @@
 use mathlib.Core.Bool.{true}
 use mathlib.Core.Path.{_≡_, refl, sym, ap, _∙_}
 use Rattle.attempt.specs.declared.Attempt.{Attempt}
-use Rattle.client_step.specs.Verdicts.{applied}
-use Rattle.client_step.specs.declared.Verdict.{Verdict}
-use Rattle.client_step.specs.declared.Verdict.the-variants.{Unchanged, Closed, Acted, Noted, Completed}
+use Rattle.client_verdict.specs.Verdicts.{applied}
+use Rattle.client_verdict.specs.declared.Verdict.{Verdict}
+use Rattle.client_verdict.specs.declared.Verdict.the-variants.{Unchanged, Closed, Acted, Noted, Completed}
 use Rattle.c_record.specs.Records.{marksFit, attemptOf, recordOf, leftAfter}
 use Rattle.c_record.specs.Verdicts.{appliedRecord}
 use Rattle.c_record.specs.declared.Record.{Record}

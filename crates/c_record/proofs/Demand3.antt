@@ -6,12 +6,12 @@ use mathlib.Core.Bool.{Bool, true, false, cond, false≢true}
 use mathlib.Core.List.{List}
 use mathlib.Core.Logic.{_↔_}
 use mathlib.Core.Option.{Option, Option.none, Option.some}
-use mathlib.Core.Path.{_≡_, refl, sym, ap, _∙_}
+use mathlib.Core.Path.{_≡_, refl, sym, ap, subst, _∙_}
 use lib.Dec.{eqb}
 use lib.ListN.{take}
 use Rattle.versions.specs.Table.{elem}
 use Rattle.attempt.specs.Attempt.{isCompleted}
-use Rattle.attempt.specs.Demand.{actedWith, Handshake, firstOutcome, Good, CompletedAgainst}
+use Rattle.attempt.specs.Demand.{actedWith, Handshake, firstOutcome, Good, CompletedBy, CompletedAgainst}
 use Rattle.attempt.specs.Events.{run}
 use Rattle.attempt.specs.Start.{Input, isAccepted, startOf}
 use Rattle.attempt.specs.Step.{After, stepOf}
@@ -20,7 +20,7 @@ use Rattle.attempt.specs.declared.End.the-variants.{Open, Completed, Closed}
 use Rattle.attempt.specs.declared.Event.{Event}
 use Rattle.attempt.proofs.Completing.{completed-in-table}
 use Rattle.attempt.proofs.Demand3.{demand-3, two-clients}
-use Rattle.client_step.proofs.Steps.{any-accepted}
+use Rattle.client_verdict.proofs.Judged.{any-accepted}
 use Rattle.c_record.specs.Calls.{EventCall, runCalls, eventsOf, hasCompleted, RecordCompletedAgainst}
 use Rattle.c_record.specs.Records.{markOf, markValue, isRecord, attemptOf, recordOf, eventOf, stepRecord, startRecord, eventOn, asFound}
 use Rattle.c_record.specs.declared.Record.{Record}
@@ -53,17 +53,7 @@ demand-3-record x calls v accepted acted =
 against : (available : List ℕ) (x : Input) (calls : List EventCall) (v : ℕ) → RecordCompletedAgainst available x calls v →
     CompletedAgainst available x (eventsOf calls) v
 against available x calls v c =
-    record {
-      accepted = c .accepted;
-      acted = c .acted;
-      completed = sym (same-completed x calls (c .accepted)) ∙ c .completed;
-      handshake = c .handshake;
-      first = c .first;
-      information = c .information;
-      read = c .read;
-      against = c .against;
-      holdsVersionInUse = c .holdsVersionInUse;
-    }
+    subst (λ (b : Bool). CompletedBy b available x (eventsOf calls) v) (same-completed x calls (c .accepted)) c
 
 pub two-clients-record : (available : List ℕ) (x y : Input) (calls others : List EventCall) (v w : ℕ) →
     x .table ≡ y .table →  -- two such clients with one table

@@ -24,7 +24,7 @@ use Rattle.attempt.specs.declared.Event.{Event}
 use Rattle.attempt.proofs.Demand3.{start-accepted}
 use Rattle.attempt.proofs.Keeps.{Keeps, step-keeps, passing-kept, start-passes}
 use Rattle.attempt.proofs.OwnLists.{length-members}
-use Rattle.client_step.proofs.Steps.{counts-table}
+use Rattle.client_verdict.proofs.Judged.{counts-table}
 use Rattle.c_record.specs.Numbers.{flag}
 use Rattle.c_record.specs.Records.{marksFit, markFits, endOf, markOf, markValue, isRecord, attemptOf, recordOf, zeroed}
 use Rattle.c_record.specs.Records.{eventOf, eventOn, leftAfter, asFound, stepRecord}

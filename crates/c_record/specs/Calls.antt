@@ -1,14 +1,12 @@
 -- Lists of event calls on a record, as C makes them, and demand 3's terms read from them.
 use Prim.Native.Nat.{ℕ}
-use mathlib.Core.Bool.{Bool, true}
+use mathlib.Core.Bool.{Bool}
 use mathlib.Core.List.{List, [], _∷_}
 use mathlib.Core.Option.{Option, Option.none, Option.some}
-use mathlib.Core.Path.{_≡_}
 use lib.Dec.{eqb}
-use Rattle.versions.specs.Table.{elem}
-use Rattle.attempt.specs.Demand.{actedWith, Handshake, firstOutcome, VersionInformation, informationOf}
+use Rattle.attempt.specs.Demand.{CompletedBy}
 use Rattle.attempt.specs.Events.{Handed}
-use Rattle.attempt.specs.Start.{Input, isAccepted}
+use Rattle.attempt.specs.Start.{Input}
 use Rattle.information.specs.declared.Presence.the-variants.{Missing, Given}
 use Rattle.attempt.specs.declared.Event.{Event}
 use Rattle.attempt.specs.declared.Event.the-variants.{Datagram, PacketProcessed, Outcome}
@@ -52,13 +50,6 @@ abbrev pub hasCompleted : Record → Bool
 hasCompleted r = eqb (r .«end_mark») 1
 
 -- A client that acted, completed, and completed against this Available list, which holds the version in use
-pub record RecordCompletedAgainst (available : List ℕ) (x : Input) (calls : List EventCall) (attempted : ℕ) : Type 0 where
-  pub accepted : isAccepted x ≡ true
-  pub acted : actedWith x (eventsOf calls) ≡ some attempted
-  pub completed : hasCompleted (runCalls (startRecord x .left) calls) ≡ true
-  pub handshake : Handshake
-  pub first : firstOutcome (eventsOf calls) ≡ some handshake
-  pub information : VersionInformation
-  pub read : informationOf attempted handshake ≡ some information
-  pub against : information .available ≡ available
-  pub holdsVersionInUse : elem (handshake .inUse) available ≡ true
+abbrev pub RecordCompletedAgainst : List ℕ → Input → List EventCall → ℕ → Type 0
+RecordCompletedAgainst available x calls attempted =
+    CompletedBy (hasCompleted (runCalls (startRecord x .left) calls)) available x (eventsOf calls) attempted

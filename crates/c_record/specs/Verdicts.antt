@@ -1,9 +1,9 @@
 -- What a verdict does to the record without enums, field by field. Private functions promise this; no public promise
 -- names it.
 use Prim.Native.Nat.{ℕ}
-use Rattle.client_step.specs.Verdicts.{attemptedAfter}
-use Rattle.client_step.specs.declared.Verdict.{Verdict}
-use Rattle.client_step.specs.declared.Verdict.the-variants.{Unchanged, Closed, Acted, Noted, Completed}
+use Rattle.client_verdict.specs.Verdicts.{attemptedAfter}
+use Rattle.client_verdict.specs.declared.Verdict.{Verdict}
+use Rattle.client_verdict.specs.declared.Verdict.the-variants.{Unchanged, Closed, Acted, Noted, Completed}
 use Rattle.c_record.specs.Records.{Left}
 use Rattle.c_record.specs.declared.Record.{Record}
 

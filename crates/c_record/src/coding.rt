@@ -7,7 +7,7 @@ ghost use Rattle.c_record.specs.Records.{isRecord, marksFit, markFits, a
 use crate::Record;
 use attempt::Attempt;
 use attempt::End;
-use client_step::could_be_attempt;
+use client_verdict::could_be_attempt;
 
 // Whether what is judged of a record is as an attempt has it: flags, end mark, unused word, counts, and that the
 // attempted version is in the table. It refuses nothing.

@@ -10,9 +10,9 @@ use crate::coding::decode;
 use crate::coding::marks_fit;
 use attempt::Event;
 use attempt::NOT_A_RECORD;
-use client_step::Verdict;
 use client_step::judge;
-use client_step::record::attempted_after;
+use client_verdict::Verdict;
+use client_verdict::record::attempted_after;
 use information::Presence;
 
 // One event: the record that it leaves, and the number of its refusal, 0 for none. `kind` is 0 for a datagram, 1 for a

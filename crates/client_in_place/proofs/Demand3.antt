@@ -43,10 +43,10 @@ pub two-clients-in-place : (available : List ℕ) (x y : Input) (events others :
     x .table ≡ y .table →  -- two such clients with one table
     LeftByAll (startOf x .attempt) events left →  -- by the records that lie there
     LeftByAll (startOf y .attempt) others right →
-    CompletedBy left available x events v →  -- both completed against the same Available list,
-    CompletedBy right available y others w →  -- and it holds the version in use at each:
+    CompletedBy (isCompleted (left .end)) available x events v →  -- both completed against the same Available list,
+    CompletedBy (isCompleted (right .end)) available y others w →  -- and it holds the version in use at each:
     v ≡ w  -- they attempted the same version
 two-clients-in-place l x y events others left right v w same all others-all c d =
     two-clients l x y events others v w same
-    (subst (λ (a : Attempt). CompletedBy a l x events v) (in-place-run (startOf x .attempt) events left all) c)
-    (subst (λ (a : Attempt). CompletedBy a l y others w) (in-place-run (startOf y .attempt) others right others-all) d)
+    (subst (λ (a : Attempt). CompletedBy (isCompleted (a .end)) l x events v) (in-place-run (startOf x .attempt) events left all) c)
+    (subst (λ (a : Attempt). CompletedBy (isCompleted (a .end)) l y others w) (in-place-run (startOf y .attempt) others right others-all) d)

@@ -1,5 +1,1 @@
-pub mod Applied
-pub mod Compared
-pub mod Negotiating
-pub mod Outcomes
-pub mod Steps
+pub mod Processed

@@ -1,30 +1,57 @@
--- `judge` meets its contract: what could not be an attempt's is refused, all else is stepped.
-use mathlib.Core.Bool.{true}
-use mathlib.Core.Path.{_≡_, sym, _∙_}
+-- `judge` meets its contract: event by event.
 use borrow.Author.Needs.{needs}
-use borrow.Author.Tests.{not-true, not-false}
-use Rattle.refusals.proofs.Rules.{both-true}
-use Rattle.attempt.specs.Step.{countsFit, couldBeAttempt}
-use Rattle.client_step.proofs.Steps.{any-refused, any-accepted}
+use mathlib.Core.Path.{refl, sym, ap, _∙_}
+use denote.Ref.{now}
+use Rattle.attempt.specs.Step.{stepOf, stepOfAny}
+use Rattle.attempt.specs.declared.Event.{Event}
 use Rattle.client_step.proofs.judge.Statement.{statement}
 use Rattle.client_step.proofs.judge.Tie as tie
 
-could-be : (c : tie.Else1) → couldBeAttempt (c .before .before .before .args .attempt) ≡ true
-could-be c = sym (c .before .could-be-attempt .ensures) ∙ not-false _ (c .if1 .left)
+enum-told : tie.Need-enum-told
+enum-told c = search needs
 
-could-be-attempt-requires : tie.Need-could-be-attempt-requires
-could-be-attempt-requires c κs = search needs
+judge-datagram-requires : tie.Need-judge-datagram-requires
+judge-datagram-requires c κs = search needs
+
+enum-told-2 : tie.Need-enum-told-2
+enum-told-2 c = search needs
+
+judge-processed-requires : tie.Need-judge-processed-requires
+judge-processed-requires c κs = search needs
+
+enum-known-event : tie.Need-enum-known-event
+enum-known-event c = search needs
+
+judge-outcome-requires : tie.Need-judge-outcome-requires
+judge-outcome-requires c κs = search needs
 
 returns : tie.Need-returns
 returns c =
-    any-refused (c .before .before .before .args .attempt) _ _
-    (sym (c .before .could-be-attempt .ensures) ∙ not-true _ (c .if1 .taken))
+    let g = c .before .before .before .before .args in
+    c .judge-datagram .ensures ∙ ap (λ (e : Event). stepOfAny (g .attempt) e (now (g .bytes))) (sym (c .before .enum-told .given .1))
 
-judge-event-requires : tie.Need-judge-event-requires
-judge-event-requires c κs = both-true (countsFit (c .before .before .before .args .attempt)) _ (could-be c) .0
-
+-- a processed packet brings no bytes
 returns-2 : tie.Need-returns-2
-returns-2 c = c .judge-event .ensures ∙ any-accepted (c .before .before .before .before .args .attempt) _ _ (could-be (c .before))
+unfolding stepOf stepOfAny
+returns-2 c =
+    let g = c .before .before .before .before .args in
+    c .judge-processed .ensures ∙ ap (λ (e : Event). stepOfAny (g .attempt) e (now (g .bytes))) (sym (c .before .enum-told2 .given .1))
+
+returns-3 : tie.Need-returns-3
+returns-3 c =
+    let g = c .before .before .before .before .before .args in
+    c .judge-outcome .ensures ∙ ap (λ (e : Event). stepOfAny (g .attempt) e (now (g .bytes))) (sym (c .before .before .event .given .1))
 
 pub judge-spec : {M : Type 1} → statement M
-judge-spec = tie.close (tie.spec could-be-attempt-requires returns judge-event-requires returns-2)
+judge-spec =
+    tie.close
+    (tie.spec
+    enum-told
+    judge-datagram-requires
+    enum-told-2
+    judge-processed-requires
+    enum-known-event
+    judge-outcome-requires
+    returns
+    returns-2
+    returns-3)

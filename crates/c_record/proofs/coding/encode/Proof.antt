@@ -2,7 +2,7 @@
 use Prim.Native.Nat.{_<_, _^_}
 use native.Mathlib.Omega.{arith}
 use borrow.Author.Needs.{needs}
-use Rattle.client_step.proofs.Steps.{counts-table, counts-destination, counts-source}
+use Rattle.client_verdict.proofs.Judged.{counts-table, counts-destination, counts-source}
 use Rattle.c_record.specs.Records.{recordOf}
 use Rattle.c_record.proofs.coding.encode.Statement.{statement}
 use Rattle.c_record.proofs.coding.encode.Tie as tie

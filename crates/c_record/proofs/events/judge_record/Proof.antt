@@ -9,7 +9,7 @@ use borrow.Author.Needs.{needs}
 use borrow.Author.Tests.{ne-eqb, not-true, not-false}
 use Rattle.attempt.specs.Step.{stepOfAny}
 use Rattle.attempt.specs.declared.Attempt.{Attempt}
-use Rattle.client_step.specs.Verdicts.{applied}
+use Rattle.client_verdict.specs.Verdicts.{applied}
 use Rattle.c_record.specs.Records.{marksFit, isRecord, eventOf, leftAfter}
 use Rattle.c_record.proofs.Applied.{verdict-left}
 use Rattle.c_record.proofs.Records.{step-refused, step-unknown, step-any-known}
