@@ -1,9 +1,9 @@
 -- What is judged of any record value: its counts first. One that could not be an attempt's is left as found.
 use Prim.Native.Nat.{ℕ, _≤_, _<_}
-use mathlib.Core.Bool.{true, false, and-false}
+use mathlib.Core.Bool.{Bool, true, false, not, and-false}
 use mathlib.Core.List.{List}
-use mathlib.Core.Path.{_≡_}
-use borrow.Author.Tests.{leb-true, le-leb, lt-leb}
+use mathlib.Core.Path.{_≡_, sym, _∙_}
+use borrow.Author.Tests.{leb-true, le-leb, lt-leb, not-true, not-false}
 use lib.Dec.{leb}
 use Rattle.refusals.proofs.Rules.{both-true}
 use Rattle.versions.specs.Limits.{maxTable}
@@ -48,3 +48,14 @@ module _ (a : Attempt) (e : Event) (bytes : List ℕ) where
   pub any-accepted : couldBeAttempt a ≡ true → stepOf a e bytes ≡ stepOfAny a e bytes
   unfolding stepOfAny
   any-accepted h = rw h
+
+-- What the test of a record value told, as its callers have it
+module _ (a : Attempt) {b : Bool} (told : b ≡ couldBeAttempt a) where
+  pub could-be : not b ≡ false → couldBeAttempt a ≡ true
+  could-be h = sym told ∙ not-false b h
+
+  pub could-not-be : not b ≡ true → couldBeAttempt a ≡ false
+  could-not-be h = sym told ∙ not-true b h
+
+pub counts-could-be : (a : Attempt) → couldBeAttempt a ≡ true → countsFit a ≡ true
+counts-could-be a h = both-true (countsFit a) _ h .0
