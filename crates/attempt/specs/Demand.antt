@@ -1,4 +1,5 @@
--- Demand 3's terms, read from the start and the events, never from the record.
+-- Demand 3's terms. "'Has completed' is read from the end mark of the record after the list, which tells completed from
+-- closed; all else in the demand is read from the start and the events, never from the record."
 use Prim.Native.Nat.{ℕ}
 use mathlib.Core.Bool.{Bool, true, cond, not}
 use mathlib.Core.List.{List, [], _∷_, _++_}
@@ -96,8 +97,8 @@ pub record Good (x : Input) (attempted : ℕ) (h : Handshake) : Type 0 where
   pub wouldChoose : preferred (x .table) (information .available ++ (h .inUse ∷ [])) ≡ some attempted
 
 -- A client that acted, completed, and "completed against" this Available list, which holds the version in use. "The
--- list completed against is the first outcome's Available, or its stand-in's." `completed?` is "has completed", as it is
--- read from the end mark of a record, wherever that lies.
+-- list completed against is the first outcome's Available, or its stand-in's." `completed?` is what the end mark of
+-- the record after the list tells: that of the steps by value, of the record where it lies, or of the C record.
 pub record CompletedBy (completed? : Bool) (available : List ℕ) (x : Input) (events : List Handed) (attempted : ℕ) : Type 0 where
   pub accepted : isAccepted x ≡ true
   pub acted : actedWith x events ≡ some attempted

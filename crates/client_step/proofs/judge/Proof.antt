@@ -1,6 +1,6 @@
 -- `judge` meets its contract: event by event.
 use borrow.Author.Needs.{needs}
-use mathlib.Core.Path.{refl, sym, ap, _∙_}
+use mathlib.Core.Path.{sym, ap, _∙_}
 use denote.Ref.{now}
 use Rattle.attempt.specs.Step.{stepOf, stepOfAny}
 use Rattle.attempt.specs.declared.Event.{Event}
