@@ -4,20 +4,16 @@ ghost use Rattle.versions.specs.Table.{elem, tableKeepsRule};
 ghost use Rattle.versions.specs.Version.{reserved, usable};
 use crate::MAX_TABLE;
 
+// What is kept of a version to tell whether it is reserved: the low half of each of its four bytes.
+const LOW_HALVES: u32 = 0x0f0f_0f0f;
+// What is kept of a reserved version, and of no other: 10 in each low half.
+const RESERVED_LOW_HALVES: u32 = 0x0a0a_0a0a;
+
 // Whether the low half of each byte of the version is 10 (0x?a?a?a?a, RFC 9000 section 15).
 pub fn is_reserved(version: u32) -> bool
     ensures { λ r. ⌜ r ≡ reserved version ⌝ }
 {
-    if version / 0x1 % 16 != 10 {
-        return false;
-    }
-    if version / 0x100 % 16 != 10 {
-        return false;
-    }
-    if version / 0x10000 % 16 != 10 {
-        return false;
-    }
-    version / 0x1000000 % 16 == 10
+    (version & LOW_HALVES) == RESERVED_LOW_HALVES
 }
 
 // Whether a table or a pair may hold the version: it is neither 0 nor reserved.

@@ -20,6 +20,7 @@ mod plain;
 #[allow(dead_code)]
 #[path = "../../src/ffi.rs"]
 mod raw;
+mod versions;
 mod wire;
 
 use measure::Table;
@@ -32,6 +33,7 @@ fn main() {
     wire::rows(&mut table);
     attempts::rows(&mut table);
     choices::rows(&mut table);
+    versions::rows(&mut table);
     table.end();
     println!();
     println!(

@@ -3,9 +3,13 @@
 use super::lists;
 use quic_version::{Pair, MAX_LIST, MAX_PAIRS, MAX_TABLE};
 
+pub fn is_reserved(version: u32) -> bool {
+    version & 0x0f0f_0f0f == 0x0a0a_0a0a
+}
+
 /// Not 0 and not reserved.
 fn is_good(version: u32) -> bool {
-    version != 0 && version & 0x0f0f_0f0f != 0x0a0a_0a0a
+    version != 0 && !is_reserved(version)
 }
 
 pub fn is_table(table: &[u32]) -> bool {

@@ -3,10 +3,12 @@
 
 mod attempts;
 mod choices;
+mod versions;
 mod wire;
 
 pub use attempts::PlainAttempt;
 pub use choices::{choose, choose_from_bytes};
+pub use versions::{is_reserved, is_table};
 pub use wire::{read_header, read_information, write_information, write_version_negotiation};
 
 fn number(bytes: &[u8]) -> u32 {

@@ -1,4 +1,4 @@
-//! Reserved versions byte by byte, and the longest lists.
+//! Reserved versions by bytes and by their low halves, and the longest lists.
 
 use crate::checks::*;
 use crate::random;
@@ -19,6 +19,17 @@ fn reserved_by_each_byte() {
                 let version = (fill & !(0xff << shift)) | byte << shift;
                 check_is_reserved(version).unwrap();
             }
+        }
+    }
+}
+
+#[test]
+fn reserved_by_low_halves() {
+    // The four low halves through all their values together, under several high halves.
+    for high in [0, 0x1020_3040, 0xa0a0_a0a0, 0xf0f0_f0f0] {
+        for low in 0..0x1_0000 {
+            let place = |half: u32| (low >> (4 * half) & 0xf) << (8 * half);
+            check_is_reserved(high | place(0) | place(1) | place(2) | place(3)).unwrap();
         }
     }
 }
