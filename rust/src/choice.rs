@@ -33,6 +33,7 @@ impl fmt::Debug for Pair {
 }
 
 /// Whether a version is reserved: 0x?a?a?a?a (RFC 9000 section 15).
+#[inline]
 pub fn is_reserved(version: u32) -> bool {
     ffi::is_reserved(version) == 1
 }

@@ -1,5 +1,5 @@
 -- `is_reserved` meets its contract: its one comparison is `reserved`, byte by byte.
-use Rattle.versions.proofs.Masks.{reserved-masked}
+use Rattle.versions.proofs.Reserved.{reserved-masked}
 use Rattle.versions.proofs.table.is_reserved.Statement.{statement}
 use Rattle.versions.proofs.table.is_reserved.Tie as tie
 
