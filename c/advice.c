@@ -147,6 +147,8 @@ struct flight add_to_flight(const uint8_t *id, size_t id_len, uint32_t version,
 
     (void)id;
     EXPECT(id_len == OUR_ID_LENGTH && version != 14);
+    EXPECT(rest_len > 0 && rest_len > rest[0]);
+    rest_len = *rest++; /* of the part; then padding */
     if (rest_len == 0 || rest[0] == 0xee)
         return flight;
     EXPECT(collected_len + rest_len <= sizeof collected);
@@ -324,17 +326,31 @@ static void client_faults(void)
     EXPECT(was_asked("fault fault fault "));
 }
 
+/* A datagram of a first flight: a part of the parameters, its length before it, and padding. */
+static size_t datagram_of(uint8_t datagram[QV_MIN_ANSWERED_DATAGRAM], uint32_t version,
+                          const uint8_t *part, size_t part_len)
+{
+    uint8_t rest[64];
+
+    EXPECT(part_len < sizeof rest);
+    rest[0] = (uint8_t)part_len;
+    if (part_len != 0)
+        memcpy(rest + 1, part, part_len);
+    memset(datagram, 0, QV_MIN_ANSWERED_DATAGRAM);
+    long_form(datagram, version, destination, source, rest, 1 + part_len);
+    return QV_MIN_ANSWERED_DATAGRAM;
+}
+
 /* A first flight in a version, cut in two; the second part may be empty. */
 static void flight(uint32_t version, const uint8_t *parameters, size_t first, size_t all)
 {
-    uint8_t packet[128];
+    uint8_t datagram[QV_MIN_ANSWERED_DATAGRAM];
 
     collected_len = 0;
-    server_datagram(packet, long_form(packet, version, destination, source, parameters, first));
+    server_datagram(datagram, datagram_of(datagram, version, parameters, first));
     if (first < all) {
         EXPECT(was_asked("")); /* it waits */
-        server_datagram(packet, long_form(packet, version, destination, source, parameters + first,
-                                          all - first));
+        server_datagram(datagram, datagram_of(datagram, version, parameters + first, all - first));
     }
 }
 
@@ -345,7 +361,7 @@ static void server(void)
     static const uint8_t too_short[] = {4, 1, 0, 0, 1};
     static const uint8_t other_version[] = {9, 1, 0, 0, 0, 2, 0, 0, 0, 2};
     static const uint8_t unreadable[] = {0xee};
-    uint8_t packet[64];
+    uint8_t packet[64], small[QV_MIN_ANSWERED_DATAGRAM];
     size_t cut;
 
     EXPECT(server_is_configured());
@@ -365,6 +381,12 @@ static void server(void)
     /* A version that is not readable: negotiated at once. */
     flight(14, unreadable, 1, 1);
     EXPECT(was_asked("send ") && sent_len == 7 + 2 * OUR_ID_LENGTH + 8);
+
+    /* The same in a datagram that is too small to open a connection: silence, and no log. */
+    datagram_of(small, 14, unreadable, 1);
+    for (cut = 0; cut < sizeof small; cut++)
+        server_datagram(small, cut);
+    EXPECT(was_asked(""));
 
     /* Version Negotiation, a datagram cut short, a short form of no connection: silence. */
     server_datagram(packet, long_form(packet, 0, destination, source, missing, 2));
@@ -391,16 +413,16 @@ static void accepted_through_a_pair_but_not_offered(void)
     static const struct qv_pair pairs[] = {{VERSION_1, VERSION_2}};
     struct qv_started started = qv_start(table, 3, pairs, 1, 14, destination, sizeof destination,
                                          source, sizeof source);
-    uint8_t packet[64], answer[QV_MAX_PACKET], information[QV_MAX_INFORMATION];
+    uint8_t first[QV_MIN_ANSWERED_DATAGRAM], answer[QV_MAX_PACKET], information[QV_MAX_INFORMATION];
     uint32_t decision = 0;
     size_t count = 0;
 
     EXPECT(started.refusal == QV_OK);
-    count = long_form(packet, 14, destination, source, NULL, 0);
+    count = datagram_of(first, 14, NULL, 0);
     EXPECT(qv_server_choice(one, 1, accepted, 2, pairs, 1, 14, QV_MISSING, NULL, 0, &decision) ==
            QV_OK);
     EXPECT(decision == QV_NEGOTIATE);
-    EXPECT(qv_write_version_negotiation(packet, count, one, 1, 64, answer, sizeof answer, &count) ==
+    EXPECT(qv_write_version_negotiation(first, count, one, 1, 64, answer, sizeof answer, &count) ==
            QV_OK);
     client_datagram(&started.attempt, answer, count);
     EXPECT(was_asked("keep flight ") && asked_version == VERSION_1);

@@ -52,7 +52,7 @@ static void layout(void)
     size_t i;
 
     EXPECT(qv_interface_version() == QV_INTERFACE_VERSION);
-    EXPECT(qv_interface_2() == QV_INTERFACE_VERSION);
+    EXPECT(qv_interface_3() == QV_INTERFACE_VERSION);
     EXPECT(qv_record_size() == sizeof(struct qv_attempt));
     for (i = 0; i < QV_MAX_TABLE; i++) {
         EXPECT(record.rows[i] == UINT64_C(0x1112131415161718));
@@ -74,9 +74,9 @@ static void layout(void)
     EXPECT(record.unused == 0x4a);
 }
 
-/* A first flight in version 12, as far as the version layer reads it. */
-static const uint8_t first_flight[] = {0xc0, 0,    0, 0,    12,   2,
-                                       0xaa, 0xbb, 1, 0xcc, 0xff};
+/* A first flight in version 12: what the version layer reads of it, a byte, and zeros. */
+static const uint8_t first_flight[QV_MIN_ANSWERED_DATAGRAM] = {0xc0, 0,    0, 0,    12,   2,
+                                                               0xaa, 0xbb, 1, 0xcc, 0xff};
 
 /* The server: a first flight in, a Version Negotiation packet out. Returns its count of bytes. */
 static size_t server(uint8_t packet[QV_MAX_PACKET])
@@ -93,15 +93,18 @@ static size_t server(uint8_t packet[QV_MAX_PACKET])
     EXPECT(form == QV_LONG && version == 12);
     EXPECT(places[QV_DESTINATION_START] == 6 && places[QV_DESTINATION_END] == 8);
     EXPECT(places[QV_SOURCE_START] == 9 && places[QV_SOURCE_END] == 10);
-    EXPECT(places[QV_REST_START] == 10 && places[QV_REST_END] == 11);
+    EXPECT(places[QV_REST_START] == 10 && places[QV_REST_END] == sizeof first_flight);
 
     /* What to do: 12 cannot be read here. There are no pairs, and no information to look at. */
     EXPECT(qv_server_choice(readable, 3, accepted, 3, NULL, 0, version, QV_MISSING, NULL, 0,
                             &decision) == QV_OK);
     EXPECT(decision == QV_NEGOTIATE);
 
-    /* A buffer that is too short is left as found, and the count too. */
+    /* Fewer bytes get no answer, and leave all as found. So does a buffer that is too short. */
     memset(packet, 0x77, QV_MAX_PACKET);
+    EXPECT(qv_write_version_negotiation(first_flight, 11, accepted, 3, 64, packet, QV_MAX_PACKET,
+                                        &count) == QV_DATAGRAM_TOO_SMALL);
+    EXPECT(packet[0] == 0x77 && count == 0);
     EXPECT(qv_write_version_negotiation(first_flight, sizeof first_flight, accepted, 3, 64, packet,
                                         sizeof expected - 1, &count) == QV_NO_ROOM_FOR_PACKET);
     EXPECT(packet[0] == 0x77 && count == 0);
@@ -109,6 +112,7 @@ static size_t server(uint8_t packet[QV_MAX_PACKET])
     EXPECT(qv_write_version_negotiation(first_flight, sizeof first_flight, accepted, 3, 64, packet,
                                         QV_MAX_PACKET, &count) == QV_OK);
     EXPECT(count == sizeof expected && memcmp(packet, expected, count) == 0);
+    EXPECT(count <= sizeof first_flight);
     EXPECT(packet[count] == 0x77);
     return count;
 }
@@ -287,12 +291,12 @@ static void not_valid(void)
     EXPECT(chosen == 7 && decision == 7 && from == 7 && to == 7 && count == 7);
 }
 
-/* The header's limits are the library's. The packet to answer has two IDs of 255 bytes of 255. */
+/* The header's limits are the library's. The datagram to answer has two IDs of 255 bytes of 255. */
 static void limits(void)
 {
     uint32_t table[QV_MAX_TABLE + 1];
     struct qv_pair pairs[QV_MAX_PAIRS + 1];
-    uint8_t received[7 + 2 * QV_MAX_CONNECTION_ID], packet[QV_MAX_PACKET];
+    uint8_t received[QV_MIN_ANSWERED_DATAGRAM], packet[QV_MAX_PACKET];
     size_t i, count = 0;
 
     for (i = 0; i <= QV_MAX_TABLE; i++) {
@@ -305,6 +309,8 @@ static void limits(void)
     memset(received, 255, sizeof received);
     EXPECT(qv_is_table(table, QV_MAX_TABLE) == 1 && qv_is_table(table, QV_MAX_TABLE + 1) == 0);
     EXPECT(qv_are_pairs(pairs, QV_MAX_PAIRS) == 1 && qv_are_pairs(pairs, QV_MAX_PAIRS + 1) == 0);
+    EXPECT(qv_write_version_negotiation(received, sizeof received - 1, table, QV_MAX_TABLE, 0,
+                                        packet, sizeof packet, &count) == QV_DATAGRAM_TOO_SMALL);
     EXPECT(qv_write_version_negotiation(received, sizeof received, table, QV_MAX_TABLE, 0, packet,
                                         sizeof packet, &count) == QV_OK);
     EXPECT(count == QV_MAX_PACKET);

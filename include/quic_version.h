@@ -29,7 +29,7 @@ extern "C" {
 
 /* The release, and the interface that this header describes. */
 #define QV_RELEASE "0.1.0"
-#define QV_INTERFACE_VERSION 2u
+#define QV_INTERFACE_VERSION 3u
 
 /* On a function that answers a refusal: the compiler warns where the answer is not looked at. */
 #if defined(__GNUC__)
@@ -48,6 +48,8 @@ extern "C" {
 #define QV_MAX_UNUSED_BITS 127u     /* the unused bits of a Version Negotiation packet */
 #define QV_MAX_INFORMATION 1024u    /* bytes of Version Information */
 #define QV_MAX_AVAILABLE 255u       /* Available Versions */
+/* The fewest bytes of a datagram that is answered with a packet (RFC 9000 section 14.1). */
+#define QV_MIN_ANSWERED_DATAGRAM 1200u
 /* Bytes of a Version Negotiation packet that is written. */
 #define QV_MAX_PACKET (7u + 2u * QV_MAX_CONNECTION_ID + 4u * QV_MAX_TABLE)
 
@@ -56,6 +58,7 @@ extern "C" {
 #define QV_DATAGRAM_TOO_LONG 11u             /* over 65,535 bytes */
 #define QV_TRUNCATED 12u                     /* empty, a field past the end, a told length over 255 */
 #define QV_LIST_NOT_WHOLE 13u                /* Version Negotiation list empty, or bytes left over */
+#define QV_DATAGRAM_TOO_SMALL 20u            /* the datagram to answer has under 1,200 bytes */
 #define QV_SHORT_FORM 21u                    /* the packet to answer has the short form */
 #define QV_VERSION_NEGOTIATION_RECEIVED 22u  /* the packet to answer has version 0 */
 #define QV_BAD_OFFERED_TABLE 23u             /* the offered table breaks its rule */
@@ -147,7 +150,7 @@ uint32_t qv_interface_version(void);
  * that a library with another interface does not link (with GCC and Clang; else compare
  * qv_interface_version() with QV_INTERFACE_VERSION at the start).
  */
-uint32_t qv_interface_2(void);
+uint32_t qv_interface_3(void);
 #if defined(__GNUC__)
 #if defined(__has_attribute)
 #if __has_attribute(retain)
@@ -157,7 +160,7 @@ uint32_t qv_interface_2(void);
 #ifndef QV_KEPT
 #define QV_KEPT __attribute__((used))
 #endif
-static uint32_t (*const qv_linked_interface)(void) QV_KEPT = qv_interface_2;
+static uint32_t (*const qv_linked_interface)(void) QV_KEPT = qv_interface_3;
 #endif
 
 /* sizeof(struct qv_attempt) as the library has it. */
@@ -216,9 +219,11 @@ uint32_t qv_read_header(const uint8_t *datagram, size_t datagram_len, size_t tol
 
 /*
  * Writes the Version Negotiation packet that answers a received datagram: IDs swapped, then the
- * offered table in its order.
- * Refusals, in order: 11, 12, 21, 22, 23, 24, 25, 26. They leave buffer and count as found.
- * Else: *count bytes are written, at most QV_MAX_PACKET; bytes past them keep their values.
+ * offered table in its order. `received` is the whole datagram as it came, not one packet of it:
+ * its length is judged.
+ * Refusals, in order: 11, 12, 20, 21, 22, 23, 24, 25, 26. They leave buffer and count as found.
+ * Else: *count bytes are written, at most QV_MAX_PACKET and never more than were received; bytes
+ * past them keep their values.
  */
 QV_CHECKED
 uint32_t qv_write_version_negotiation(const uint8_t *received, size_t received_len,
@@ -372,6 +377,7 @@ static inline const char *qv_refusal_text(uint32_t number)
     case QV_TRUNCATED:
         return "the datagram is empty, a field runs past its end, or a told length is over 255";
     case QV_LIST_NOT_WHOLE: return "the Version Negotiation list is empty, or bytes are left over";
+    case QV_DATAGRAM_TOO_SMALL: return "the datagram to answer has under 1,200 bytes";
     case QV_SHORT_FORM: return "the packet to answer has the short form";
     case QV_VERSION_NEGOTIATION_RECEIVED: return "the packet to answer has version 0";
     case QV_BAD_OFFERED_TABLE: return "the offered table breaks its rule";

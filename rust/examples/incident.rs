@@ -5,7 +5,7 @@
 use quic_version::{
     choose_from_bytes, read_header, read_information, server_choice, versions, write_information,
     write_version_negotiation, Attempt, Decision, End, Header, Refusal, Sender, MAX_INFORMATION,
-    MAX_PACKET,
+    MAX_PACKET, MIN_ANSWERED_DATAGRAM,
 };
 use std::error::Error;
 
@@ -49,7 +49,7 @@ fn first_flight() -> Result<Attempt, Refusal> {
         "client",
         &format!("sends a first flight in version {}", ORIGINAL),
     );
-    bytes("packet", &long_packet(ORIGINAL));
+    bytes("datagram", &first_datagram(ORIGINAL));
     Ok(attempt)
 }
 
@@ -78,7 +78,7 @@ fn honest_packet(attempt: &mut Attempt, table: &[u32]) -> Result<(), Box<dyn Err
 /// A Version Negotiation packet reaches the client.
 fn answer_with(attempt: &mut Attempt, offered: &[u32]) -> Result<(), Box<dyn Error>> {
     let mut buffer = [0; MAX_PACKET];
-    let count = write_version_negotiation(&long_packet(ORIGINAL), offered, 64, &mut buffer)?;
+    let count = write_version_negotiation(&first_datagram(ORIGINAL), offered, 64, &mut buffer)?;
     let packet = &buffer[..count];
     bytes("packet", packet);
     if let Header::VersionNegotiation { list, .. } = read_header(packet, 0)? {
@@ -172,15 +172,17 @@ fn explain(table: &[u32], answer: Result<u32, Refusal>, information: &[u8]) -> R
     Ok(())
 }
 
-/// A first flight, as far as the version layer reads it.
-fn long_packet(version: u32) -> Vec<u8> {
-    let mut packet = vec![0xc0];
-    packet.extend(version.to_be_bytes());
-    packet.push(DESTINATION.len() as u8);
-    packet.extend(DESTINATION);
-    packet.push(SOURCE.len() as u8);
-    packet.extend(SOURCE);
-    packet
+/// A first flight: what the version layer reads of it, and zeros in the place of what is protected.
+/// It has the fewest bytes that a first flight may have; a server does not answer a smaller one.
+fn first_datagram(version: u32) -> Vec<u8> {
+    let mut datagram = vec![0xc0];
+    datagram.extend(version.to_be_bytes());
+    datagram.push(DESTINATION.len() as u8);
+    datagram.extend(DESTINATION);
+    datagram.push(SOURCE.len() as u8);
+    datagram.extend(SOURCE);
+    datagram.resize(MIN_ANSWERED_DATAGRAM, 0);
+    datagram
 }
 
 // Printing.
@@ -197,9 +199,17 @@ fn note(text: &str) {
     println!("{:>12}  {}", "", text);
 }
 
+/// The bytes in hexadecimal; of many the first.
 fn bytes(what: &str, bytes: &[u8]) {
-    let shown: Vec<String> = bytes.iter().map(|byte| format!("{:02x}", byte)).collect();
-    println!("{:>12}  {}: {}", "", what, shown.join(" "));
+    let most = 32;
+    let shown = bytes.iter().take(most).map(|byte| format!("{:02x}", byte));
+    let shown = shown.collect::<Vec<String>>().join(" ");
+    if bytes.len() <= most {
+        println!("{:>12}  {}: {}", "", what, shown);
+    } else {
+        let length = bytes.len();
+        println!("{:>12}  {} of {} bytes: {} ..", "", what, length, shown);
+    }
 }
 
 fn words(versions: &[u32]) -> String {

@@ -12,13 +12,14 @@
 //! ```
 //! use quic_version::{
 //!     server_choice, write_information, write_version_negotiation, Attempt, Decision, End, Sender,
-//!     MAX_INFORMATION, MAX_PACKET, VERSION_1, VERSION_2,
+//!     MAX_INFORMATION, MAX_PACKET, MIN_ANSWERED_DATAGRAM, VERSION_1, VERSION_2,
 //! };
 //!
 //! // A client that prefers version 2, and whose first flight goes out in it.
 //! let versions = [VERSION_2, VERSION_1];
 //! let mut attempt = Attempt::start(&versions, &[], VERSION_2, &[0xd1, 0xd2], &[0x51])?;
-//! let first_flight = [0xc0, 0x6b, 0x33, 0x43, 0xcf, 2, 0xd1, 0xd2, 1, 0x51];
+//! let mut first_flight = vec![0xc0, 0x6b, 0x33, 0x43, 0xcf, 2, 0xd1, 0xd2, 1, 0x51];
+//! first_flight.resize(MIN_ANSWERED_DATAGRAM, 0); // Its protected rest, with padding.
 //!
 //! // A server that reads and accepts version 1 alone answers with Version Negotiation.
 //! let table = [VERSION_1];
@@ -75,7 +76,7 @@ pub const VERSION_2: u32 = 0x6b33_43cf;
 /// The release: this crate's version, and that of the library with it.
 pub const RELEASE: &str = env!("CARGO_PKG_VERSION");
 /// The interface that this crate is written for. With a library of another one it does not link.
-pub const INTERFACE_VERSION: u32 = 2;
+pub const INTERFACE_VERSION: u32 = 3;
 /// The most entries of a table of versions.
 pub const MAX_TABLE: usize = ffi::MAX_TABLE;
 /// The most pairs of a table of compatible pairs.
@@ -88,6 +89,9 @@ pub const MAX_ID: usize = ffi::MAX_ID;
 pub const MAX_DATAGRAM: usize = 65_535;
 /// The most bytes of a connection ID on the wire (RFC 8999).
 pub const MAX_CONNECTION_ID: usize = 255;
+/// The fewest bytes of a datagram that is answered with a Version Negotiation packet (RFC 9000
+/// section 14.1).
+pub const MIN_ANSWERED_DATAGRAM: usize = 1_200;
 /// The highest number for the unused bits of a Version Negotiation packet.
 pub const MAX_UNUSED_BITS: u8 = 127;
 /// The most bytes of Version Information.

@@ -1,4 +1,4 @@
-//! Refusals: document 01's numbers, each with its one cause.
+//! Refusals: the numbers of document 01's table, which document 02's join, each with its one cause.
 //!
 //! Two types, since a close code belongs to the number and the call: document 01 has 33 to 36 close
 //! with 0x08 when a reader gives them, and close nothing when a writer does.
@@ -14,6 +14,7 @@ macro_rules! words {
     (11) => { "the datagram has over 65,535 bytes" };
     (12) => { "the datagram is empty, a field runs past its end, or a told length is over 255" };
     (13) => { "the Version Negotiation list is empty, or bytes are left over" };
+    (20) => { "the datagram to answer has under 1,200 bytes" };
     (21) => { "the packet to answer has the short form" };
     (22) => { "the packet to answer has version 0" };
     (23) => { "the offered table breaks its rule" };
@@ -102,7 +103,7 @@ refusals! {
     /// Why an answer is no: document 01's number under a name for its cause. Writers have a type of
     /// their own, [`WriteRefusal`].
     ///
-    /// [`NotValid`](Refusal::NotValid) is the one number that document 01 does not have. This crate
+    /// [`NotValid`](Refusal::NotValid) is the one number outside document 01's table. This crate
     /// hands over no unknown kind and no record but an attempt's, so it does not occur.
     Refusal {
         11 DatagramTooLong,
@@ -138,8 +139,9 @@ refusals! {
 refusals! {
     /// Why a writer wrote nothing: document 01's number under a name for its cause.
     ///
-    /// It closes nothing, since what was to be written came from the caller. So it has no close
-    /// code, and does not turn into a [`Refusal`], which may have one:
+    /// It closes nothing: what was to be written came from the caller, and a datagram that gets no
+    /// Version Negotiation packet has no connection. So it has no close code, and does not turn
+    /// into a [`Refusal`], which may have one:
     ///
     /// ```
     /// # use quic_version::{write_information, Sender};
@@ -164,11 +166,12 @@ refusals! {
     /// # }
     /// ```
     ///
-    /// [`NotValid`](WriteRefusal::NotValid) is the one number that document 01 does not have. This
+    /// [`NotValid`](WriteRefusal::NotValid) is the one number outside document 01's table. This
     /// crate hands over no unknown sender, so it does not occur.
     WriteRefusal {
         11 DatagramTooLong,
         12 Truncated,
+        20 DatagramTooSmall,
         21 ShortForm,
         22 VersionNegotiationReceived,
         23 BadOfferedTable,

@@ -161,7 +161,10 @@ impl fmt::Debug for Versions<'_> {
 
 /// Writes the Version Negotiation packet that answers a received datagram: the received IDs
 /// swapped, then the offered table in its order. The answer is the count of bytes written, at most
-/// [`MAX_PACKET`](crate::MAX_PACKET); bytes of the buffer past it keep their values.
+/// [`MAX_PACKET`](crate::MAX_PACKET) and never more than were received; bytes of the buffer past it
+/// keep their values.
+///
+/// `received` is the whole datagram as it came, not one packet of it: its length is judged.
 ///
 /// # Errors
 ///
@@ -169,6 +172,8 @@ impl fmt::Debug for Versions<'_> {
 /// - [`DatagramTooLong`](WriteRefusal::DatagramTooLong) (11): over 65,535 bytes were received;
 /// - [`Truncated`](WriteRefusal::Truncated) (12): the datagram is empty, or a field of a long form
 ///   runs past its end;
+/// - [`DatagramTooSmall`](WriteRefusal::DatagramTooSmall) (20): it has under 1,200 bytes
+///   ([`MIN_ANSWERED_DATAGRAM`](crate::MIN_ANSWERED_DATAGRAM)), whatever its form;
 /// - [`ShortForm`](WriteRefusal::ShortForm) (21): it has the short form;
 /// - [`VersionNegotiationReceived`](WriteRefusal::VersionNegotiationReceived) (22): it has version
 ///   0;

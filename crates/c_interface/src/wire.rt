@@ -85,7 +85,7 @@ fn places_of(first: Span, second: Span, third: Span) -> [usize; 6]
     ]
 }
 
-// Writes the Version Negotiation packet that answers a received datagram. Refusals: 11, 12, 21 to 26, which leave
+// Writes the Version Negotiation packet that answers a received datagram. Refusals: 11, 12, 20 to 26, which leave
 // buffer and count as found; else 0, and `count` bytes of the buffer are written.
 #[no_mangle]
 pub extern "C" fn qv_write_version_negotiation(

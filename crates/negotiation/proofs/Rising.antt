@@ -11,7 +11,7 @@ pub offer-rises : (version count : ℕ) (offered : List ℕ) (unusedBits room : 
     rising (offerRules version count offered unusedBits room) ≡ true
 offer-rises version count offered unusedBits room = refl
 
--- 11, 12, 21, 22, then those
+-- 11, 12, 20, 21, 22, then those
 pub packet-rises : (received offered : List ℕ) (unusedBits room : ℕ) →
     rising (packetRules received offered unusedBits room) ≡ true
 packet-rises received offered unusedBits room = refl

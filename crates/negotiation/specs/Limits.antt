@@ -8,6 +8,11 @@ use Rattle.invariants.specs.Limits.{maxConnectionID}
 abbrev pub maxUnusedBits : ℕ
 maxUnusedBits = 127
 
+-- Document 02, C-13: "when the received datagram is under 1,200 bytes". RFC 9000 section 14.1: the least that a
+-- datagram of a client has that could open a connection
+abbrev pub minAnsweredDatagram : ℕ
+minAnsweredDatagram = 1200
+
 -- The most bytes of a packet: "7 plus both ID lengths plus 4 per entry, at most 581"
 abbrev pub maxPacket : ℕ
 maxPacket = 7 + (maxConnectionID + (maxConnectionID + versionBytes * maxTable))

@@ -12,7 +12,7 @@ use Rattle.versions.specs.Table.{elem, tableKeepsRule}
 use Rattle.lists.specs.Wire.{bytesOf, listBytes, versionBytes}
 use Rattle.invariants.specs.Header.{isLong, versionOf, destinationLength, sourceLength, destinationID, sourceID, longTruncated}
 use Rattle.invariants.specs.Limits.{maxDatagram}
-use Rattle.negotiation.specs.Limits.{maxUnusedBits}
+use Rattle.negotiation.specs.Limits.{maxUnusedBits, minAnsweredDatagram}
 
 -- "7 plus both ID lengths plus 4 per entry"
 abbrev pub packetLength : List ℕ → List ℕ → ℕ
@@ -37,11 +37,13 @@ offerRules version count offered unusedBits room =
     (26 when ltb room count) ∷
     []
 
--- "packet to answer has the short form (12 is then judged for emptiness only)"
+-- "packet to answer has the short form (12 is then judged for emptiness only)". Document 02, C-13: "refuses with 20
+-- when the received datagram is under 1,200 bytes, judged after 11 and 12 and before 21"
 abbrev pub packetRules : List ℕ → List ℕ → ℕ → ℕ → List Rule
 packetRules received offered unusedBits room =
     (11 when ltb maxDatagram (length received)) ∷
     (12 when eqb (length received) 0 || (isLong received && longTruncated received)) ∷
+    (20 when ltb (length received) minAnsweredDatagram) ∷
     (21 when not (isLong received)) ∷
     (22 when eqb (versionOf received) 0) ∷
     offerRules (versionOf received) (packetLength received offered) offered unusedBits room

@@ -5,11 +5,11 @@ use mathlib.Core.List.{List}
 use mathlib.Core.Path.{_≡_}
 use lib.Dec.{eqb}
 use lib.ListN.{length}
-use Rattle.refusals.specs.Reply.{Reply, Reply.answered}
+use Rattle.refusals.specs.Reply.{Reply, Reply.refused, Reply.answered}
 use Rattle.refusals.specs.Rule.{judged}
 use Rattle.refusals.specs.declared.Call.the-variants.{Writing}
 use Rattle.lists.specs.Wire.{versionBytes}
-use Rattle.invariants.specs.Header.{versionOf, destinationLength, sourceLength, restStart}
+use Rattle.invariants.specs.Header.{Form, versionOf, destinationLength, sourceLength, restStart}
 use Rattle.invariants.specs.Limits.{maxConnectionID}
 use Rattle.negotiation.specs.Packet.{packetLength, packetFor, offerRules}
 
@@ -22,9 +22,14 @@ pub record Lengths (received : List ℕ) (destination source : ℕ) : Type 0 whe
   pub destination-short : destination ≤ maxConnectionID
   pub source-short : source ≤ maxConnectionID
 
--- The refusal that goes with one of the header reader: 13 is said of version 0 alone, which is a 22 here
-abbrev pub writerNumber : ℕ → ℕ
-writerNumber n = cond (eqb n 13) 22 n
+-- The refusal that goes with one of the header reader's: 11 and 12 stay, for 13 there is another
+abbrev pub writerNumber : ℕ → ℕ → ℕ
+writerNumber other n = cond (eqb n 13) other n
+
+-- The refusal of a datagram that is too small to answer, by what the header reader answers
+abbrev pub smallNumber : Reply Form → ℕ
+smallNumber (refused n code) = writerNumber 20 n
+smallNumber (answered form) = 20
 
 -- The packet's length, for connection IDs of so many bytes in all
 abbrev pub countOf : ℕ → List ℕ → ℕ

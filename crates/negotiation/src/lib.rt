@@ -9,11 +9,11 @@ ghost use Rattle.refusals.specs.Rule.{judged};
 ghost use Rattle.refusals.specs.declared.Call.the-variants.{Writing};
 ghost use Rattle.refusals.specs.Written.{writtenReply, counted, leaves};
 ghost use Rattle.lists.specs.Wire.{bytesOf};
-ghost use Rattle.invariants.specs.Header.{versionOf};
+ghost use Rattle.invariants.specs.Header.{versionOf, headerReply};
 ghost use Rattle.invariants.specs.Limits.{maxConnectionID};
 ghost use Rattle.negotiation.specs.Limits.{maxUnusedBits};
 ghost use Rattle.negotiation.specs.Packet.{packetLength, packetFor, offerRules, negotiationPacket};
-ghost use Rattle.negotiation.specs.Parts.{Lengths, writerNumber, countOf, offerAnswer};
+ghost use Rattle.negotiation.specs.Parts.{Lengths, writerNumber, smallNumber, countOf, offerAnswer};
 use invariants::Header;
 use invariants::reader::read_header;
 use lists::VERSION_BYTES;
@@ -23,6 +23,9 @@ use refusals::Written;
 use versions::table::contains;
 use versions::table::is_table;
 
+// The least bytes of a datagram that is answered: RFC 9000 section 14.1.
+pub const MIN_ANSWERED_DATAGRAM: usize = 1200;
+
 // The largest value of the unused bits of a Version Negotiation packet's first byte.
 pub const MAX_UNUSED_BITS: u8 = 127;
 
@@ -31,9 +34,10 @@ pub const MAX_UNUSED_BITS: u8 = 127;
 // connection ID as source (each behind its length), the offered table in its order, big endian. Bytes of
 // the buffer past the count keep their values. Refusals, in order, each of which leaves the buffer as found:
 // 11 (the datagram has over invariants::MAX_DATAGRAM bytes), 12 (it is empty, or a field of its long form
-// runs past the end), 21 (it has the short form), 22 (it has version 0), 23 (the offered table breaks its
-// rule), 24 (the received version is in it), 25 (the unused bits are over MAX_UNUSED_BITS), 26 (the buffer
-// is shorter than the packet).
+// runs past the end), 20 (it has under MIN_ANSWERED_DATAGRAM bytes), 21 (it has the short form), 22 (it has
+// version 0), 23 (the offered table breaks its rule), 24 (the received version is in it), 25 (the unused bits
+// are over MAX_UNUSED_BITS), 26 (the buffer is shorter than the packet). So a packet is never longer than the
+// datagram that it answers.
 pub fn write_version_negotiation(
     received: &[u8],
     offered: &[u32],
@@ -47,8 +51,14 @@ pub fn write_version_negotiation(
         (now (buffer .entry)) ⌝ }
 {
     // Told length 0: a short form is a 12 only where it is empty.
-    match read_header(received, 0) {
-        Header::Refused(refusal) => Written::Refused(of_header(refusal)),
+    let header = read_header(received, 0);
+    if received.len() < MIN_ANSWERED_DATAGRAM {
+        return Written::Refused(of_small(header));
+    }
+    match header {
+        Header::Refused(refusal) => {
+            Written::Refused(of_header(refusal, Refusal::VERSION_NEGOTIATION_RECEIVED))
+        }
         Header::Short {
             destination: _,
             rest: _,
@@ -75,14 +85,27 @@ pub fn write_version_negotiation(
     }
 }
 
-// The refusal that goes with one of the header reader's: a 13 has version 0, which is a 22 here.
-fn of_header(refusal: Refusal) -> Refusal
-    ensures { λ r. ⌜ r .0 ≡ writerNumber (refusal .0) ⌝ }
+// The refusal of a datagram that is too small to answer: the header reader's 11 or 12, else 20, whatever its form.
+fn of_small(header: Header) -> Refusal
+    ensures { λ r. ⌜ r .0 ≡ smallNumber (headerReply header) ⌝ }
+{
+    match header {
+        Header::Refused(refusal) => of_header(refusal, Refusal::DATAGRAM_TOO_SMALL),
+        Header::Short { .. } => Refusal::DATAGRAM_TOO_SMALL,
+        Header::VersionNegotiation { .. } => Refusal::DATAGRAM_TOO_SMALL,
+        Header::Long { .. } => Refusal::DATAGRAM_TOO_SMALL,
+    }
+}
+
+// The refusal that goes with one of the header reader's: its 11 or 12, and for 13, which is the reader's alone,
+// the other (a 13 has version 0, a 22 here where the datagram is large enough).
+fn of_header(refusal: Refusal, other: Refusal) -> Refusal
+    ensures { λ r. ⌜ r .0 ≡ writerNumber (other .0) (refusal .0) ⌝ }
 {
     if refusal.0 != Refusal::LIST_NOT_WHOLE.0 {
         return refusal;
     }
-    Refusal::VERSION_NEGOTIATION_RECEIVED
+    other
 }
 
 // Answers a complete long form of this version, with connection IDs of these lengths: judges 23 to 26, then

@@ -1,5 +1,6 @@
 -- Document 01, "When the desk says no": each number of the table, with its close code where what was read
 -- from the peer is refused. A row of the paper with no close code, or with a state in its place, has `Nothing`.
+-- Document 02: "New numbers, here and later, join document 01's table without a close code"; here 20, of C-13.
 use Prim.Native.Nat.{ℕ}
 use mathlib.Core.List.{List, [], _∷_}
 use Rattle.refusals.specs.declared.Close.{Close}
@@ -13,6 +14,7 @@ table =
     row 11 Nothing ∷
     row 12 Nothing ∷
     row 13 Nothing ∷
+    row 20 Nothing ∷
     row 21 Nothing ∷
     row 22 Nothing ∷
     row 23 Nothing ∷

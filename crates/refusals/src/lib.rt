@@ -14,6 +14,8 @@ impl Refusal {
     pub const TRUNCATED: Refusal = Refusal(12);
     // 13: a Version Negotiation list is empty, or bytes are left over (reader only).
     pub const LIST_NOT_WHOLE: Refusal = Refusal(13);
+    // 20: the datagram to answer has under 1,200 bytes.
+    pub const DATAGRAM_TOO_SMALL: Refusal = Refusal(20);
     // 21: the packet to answer has the short form.
     pub const SHORT_FORM: Refusal = Refusal(21);
     // 22: the packet to answer has version 0.
@@ -97,7 +99,7 @@ pub enum Written {
 }
 
 // How many numbers document 01's table has.
-pub const COUNT: usize = 33;
+pub const COUNT: usize = 34;
 
 // Every number of document 01's table, in its order. Total, and it refuses nothing.
 pub fn all_numbers() -> [u8; COUNT]
@@ -107,6 +109,7 @@ pub fn all_numbers() -> [u8; COUNT]
         Refusal::DATAGRAM_TOO_LONG.0,
         Refusal::TRUNCATED.0,
         Refusal::LIST_NOT_WHOLE.0,
+        Refusal::DATAGRAM_TOO_SMALL.0,
         Refusal::SHORT_FORM.0,
         Refusal::VERSION_NEGOTIATION_RECEIVED.0,
         Refusal::BAD_OFFERED_TABLE.0,

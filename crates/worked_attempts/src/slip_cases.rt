@@ -2,6 +2,7 @@
 use crate::records;
 use crate::show_client::datagram;
 use crate::show_client::outcome;
+use negotiation::MIN_ANSWERED_DATAGRAM;
 use negotiation::write_version_negotiation;
 
 pub(crate) fn all() {
@@ -30,7 +31,15 @@ fn attempted_is_compared() {
 
 // The packet that the server sends is for the client that sent the datagram.
 fn ids_are_swapped() {
-    let received = [0xc0u8, 0, 0, 0, 12, 2, 0xaa, 0xbb, 1, 0xcc, 0xff];
+    let mut received = [0u8; MIN_ANSWERED_DATAGRAM];
+    received[0] = 0xc0;
+    received[4] = 12;
+    received[5] = 2;
+    received[6] = 0xaa;
+    received[7] = 0xbb;
+    received[8] = 1;
+    received[9] = 0xcc;
+    received[10] = 0xff;
     let mut packet = [0u8; 22];
     write_version_negotiation(&received, &[14, 13, 10], 64, &mut packet);
     datagram(

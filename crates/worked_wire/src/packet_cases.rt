@@ -1,8 +1,9 @@
-// "The packet the box sends back": the whole case, and the longest packet.
+// "The packet the box sends back": the whole case, alone and as document 02 has it (C-13), and the longest packet.
 use crate::show::packet;
 use crate::show::packet_count;
 use invariants::MAX_CONNECTION_ID;
 use lists::VERSION_BYTES;
+use negotiation::MIN_ANSWERED_DATAGRAM;
 use versions::MAX_TABLE;
 
 // The bytes of the longest packet: two of the longest connection IDs, a full table offered.
@@ -17,18 +18,40 @@ pub(crate) fn all() {
 fn whole_case() {
     let mut buffer = [0xeeu8; 24];
     packet(
-        b"packet for c0 00 00 00 0c 02 aa bb 01 cc ff, offered 14, 13, 10, bits 64: ",
+        b"packet for c0 00 00 00 0c 02 aa bb 01 cc ff alone, offered 14, 13, 10, bits 64: ",
         b"\xc0\0\0\0\x0c\x02\xaa\xbb\x01\xcc\xff",
+        &[14, 13, 10],
+        64,
+        &mut buffer,
+    );
+    let datagram = padded_case();
+    packet(
+        b"packet for the same followed by zeros up to 1200 bytes: ",
+        &datagram,
         &[14, 13, 10],
         64,
         &mut buffer,
     );
 }
 
+// The whole case, which has version 12, followed by zeros up to the fewest bytes that are answered.
+pub(crate) fn padded_case() -> [u8; MIN_ANSWERED_DATAGRAM] {
+    let mut datagram = [0u8; MIN_ANSWERED_DATAGRAM];
+    datagram[0] = 0xc0;
+    datagram[4] = 12;
+    datagram[5] = 2;
+    datagram[6] = 0xaa;
+    datagram[7] = 0xbb;
+    datagram[8] = 1;
+    datagram[9] = 0xcc;
+    datagram[10] = 0xff;
+    datagram
+}
+
 // Each byte of the datagram is 255, and so is the length of each connection ID. The buffer has no byte more than the
 // packet.
 fn longest() {
-    let datagram = [255u8; 517];
+    let datagram = [255u8; MIN_ANSWERED_DATAGRAM];
     let offered = full_table();
     let mut buffer = [0u8; LONGEST];
     packet_count(

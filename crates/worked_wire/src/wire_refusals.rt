@@ -1,9 +1,11 @@
-// "When the desk says no", 11 to 37: the header reader, the packet writer, Version Information.
+// "When the desk says no", 11 to 37, with document 02's 20: the header reader, the packet writer, Version Information.
+use crate::packet_cases::padded_case;
 use crate::show::header;
 use crate::show::packet;
 use crate::show::received;
 use crate::show::sent;
 use information::Sender;
+use negotiation::MIN_ANSWERED_DATAGRAM;
 
 pub(crate) fn all() {
     of_datagrams();
@@ -27,10 +29,21 @@ fn of_datagrams() {
 
 fn of_the_packet_to_answer() {
     let mut buffer = [0xeeu8; 4];
-    packet(b"packet for a short form: ", b"\x40", &[14], 0, &mut buffer);
+    let small = [0x40u8; MIN_ANSWERED_DATAGRAM - 1];
+    packet(b"packet for 1199 bytes: ", &small, &[14], 0, &mut buffer);
+    let short = [0x40u8; MIN_ANSWERED_DATAGRAM];
     packet(
-        b"packet for Version Negotiation: ",
-        b"\x80\0\0\0\0\0\0",
+        b"packet for a short form of 1200 bytes: ",
+        &short,
+        &[14],
+        0,
+        &mut buffer,
+    );
+    let mut negotiation = [0u8; MIN_ANSWERED_DATAGRAM];
+    negotiation[0] = 0x80;
+    packet(
+        b"packet for Version Negotiation of 1200 bytes: ",
+        &negotiation,
         &[14],
         0,
         &mut buffer,
@@ -39,7 +52,7 @@ fn of_the_packet_to_answer() {
 
 // The datagram has version 12.
 fn of_the_packet_to_send() {
-    let datagram = [0xc0u8, 0, 0, 0, 12, 2, 0xaa, 0xbb, 1, 0xcc, 0xff];
+    let datagram = padded_case();
     let mut buffer = [0xeeu8; 4];
     packet(
         b"packet that offers 14, 14: ",

@@ -6,6 +6,7 @@ use crate::{plain, raw};
 use quic_version::{
     read_header, read_information, write_information, write_version_negotiation, Sender,
     WriteRefusal, MAX_AVAILABLE, MAX_CONNECTION_ID, MAX_INFORMATION, MAX_PACKET, MAX_TABLE,
+    MIN_ANSWERED_DATAGRAM,
 };
 
 pub fn rows(table: &mut Table) {
@@ -15,9 +16,16 @@ pub fn rows(table: &mut Table) {
     version_information(table);
 }
 
-/// A first flight in version 12: that of document 01's whole case.
+/// A datagram in version 12: that of document 01's whole case.
 fn small() -> Vec<u8> {
     long_packet(0xc0, 12, &[0xaa, 0xbb], &[0xcc], &[0xff])
+}
+
+/// The same, followed by zeros up to the fewest bytes that are answered.
+fn answered() -> Vec<u8> {
+    let mut datagram = small();
+    datagram.resize(MIN_ANSWERED_DATAGRAM, 0);
+    datagram
 }
 
 fn headers(table: &mut Table) {
@@ -52,15 +60,24 @@ fn header_places(table: &mut Table) {
 fn packets(table: &mut Table) {
     let most: Vec<u32> = (100..).take(MAX_TABLE).collect();
     let ids = ([7; MAX_CONNECTION_ID], [8; MAX_CONNECTION_ID]);
-    let large = long_packet(0xc0, 12, &ids.0, &ids.1, &[9; 600]);
-    for (received, offered) in [(&small()[..], &[14, 13, 10][..]), (&large, &most)] {
+    let large = long_packet(0xc0, 12, &ids.0, &ids.1, &[9; MIN_ANSWERED_DATAGRAM]);
+    for (received, offered, answer) in [
+        (&small()[..], &[14, 13, 10][..], Err(20)),
+        (&answered(), &[14, 13, 10], Ok(22)),
+        (&large, &most, Ok(MAX_PACKET)),
+    ] {
         let (mut buffer, mut other) = ([0; MAX_PACKET], [0; MAX_PACKET]);
         let count = write_version_negotiation(received, offered, 64, &mut buffer);
         let again = plain::write_version_negotiation(received, offered, 64, &mut other);
-        assert_eq!(count.map_err(WriteRefusal::number), again);
+        assert_eq!(count.map_err(WriteRefusal::number), answer);
+        assert_eq!(again, answer);
         assert_eq!(buffer, other);
+        let name = match answer {
+            Ok(count) => format!("packet writing, {} bytes", count),
+            Err(number) => format!("packet writing, refused with {}", number),
+        };
         table.row(
-            &format!("packet writing, {} bytes", count.unwrap()),
+            &name,
             calls!(write_version_negotiation(
                 opaque(received),
                 opaque(offered),

@@ -2,7 +2,7 @@
 
 use quic_version::{
     server_choice, write_information, write_version_negotiation, Attempt, Decision, Pair, Refusal,
-    Sender, WriteRefusal, MAX_INFORMATION, MAX_PACKET,
+    Sender, WriteRefusal, MAX_INFORMATION, MAX_PACKET, MIN_ANSWERED_DATAGRAM,
 };
 
 /// A server's configuration.
@@ -59,10 +59,18 @@ pub fn information(sender: Sender, chosen: u32, available: &[u32]) -> Vec<u8> {
     bytes
 }
 
+/// A datagram of a first flight, as the page has a client send it: padded to the fewest bytes that
+/// are answered.
+pub fn flight(version: u32, rest: &[u8]) -> Vec<u8> {
+    let mut datagram = long_form(version, &DESTINATION, &SOURCE, rest);
+    datagram.resize(datagram.len().max(MIN_ANSWERED_DATAGRAM), 0);
+    datagram
+}
+
 /// The Version Negotiation packet that answers a first flight with [`DESTINATION`] and [`SOURCE`].
 pub fn negotiation(version: u32, offered: &[u32]) -> Result<Vec<u8>, WriteRefusal> {
     let mut packet = vec![0; MAX_PACKET];
-    let flight = long_form(version, &DESTINATION, &SOURCE, &[]);
+    let flight = flight(version, &[]);
     let count = write_version_negotiation(&flight, offered, 64, &mut packet)?;
     packet.truncate(count);
     Ok(packet)

@@ -3,10 +3,10 @@
 use quic_version::{Refusal, WriteRefusal};
 use std::collections::BTreeMap;
 
-/// Document 01's numbers.
-const NUMBERS: [u8; 33] = [
-    11, 12, 13, 21, 22, 23, 24, 25, 26, 31, 32, 33, 34, 35, 36, 37, 40, 41, 42, 43, 44, 45, 51, 61,
-    62, 63, 64, 65, 71, 72, 73, 74, 75,
+/// Document 01's numbers, and document 02's 20.
+const NUMBERS: [u8; 34] = [
+    11, 12, 13, 20, 21, 22, 23, 24, 25, 26, 31, 32, 33, 34, 35, 36, 37, 40, 41, 42, 43, 44, 45, 51,
+    61, 62, 63, 64, 65, 71, 72, 73, 74, 75,
 ];
 
 /// What was seen.

@@ -1,8 +1,9 @@
-//! A second reading of document 01, in plain Rust, to compare the library with.
+//! A second reading of document 01, and of document 02 as far as it is there (C-13), in plain Rust,
+//! to compare the library with.
 //!
 //! It is written from the paper's sentences with sets, slices and iterators;
 //! speed is no aim. Refusals are the paper's numbers. Quoted comments are
-//! sentences of document 01.
+//! sentences of document 01, or of document 02 where they say so.
 
 #![allow(dead_code)]
 
@@ -32,6 +33,8 @@ pub const MAX_AVAILABLE: usize = 255;
 pub const MAX_INFORMATION: usize = 1_024;
 /// An attempt's connection IDs: "0 to 20 bytes each".
 pub const MAX_ID: usize = 20;
+/// Document 02, C-13: "when the received datagram is under 1,200 bytes"
+pub const MIN_ANSWERED: usize = 1_200;
 /// "a number 0 to 127 for the unused bits"
 pub const MAX_UNUSED_BITS: u8 = 127;
 

@@ -2,7 +2,8 @@
 //! Version Information.
 
 use super::choices::{is_table, set};
-use super::{MAX_AVAILABLE, MAX_DATAGRAM, MAX_INFORMATION, MAX_UNUSED_BITS, MAX_WIRE_ID};
+use super::{MAX_AVAILABLE, MAX_DATAGRAM, MAX_INFORMATION};
+use super::{MAX_UNUSED_BITS, MAX_WIRE_ID, MIN_ANSWERED};
 use std::ops::Range;
 
 /// "Numbers are big endian."
@@ -130,7 +131,7 @@ pub fn read_header(datagram: &[u8], told: usize) -> Result<Header, u8> {
     })
 }
 
-/// The packet the server sends back: 11, 12, 21 to 26. `room` is the length of
+/// The packet the server sends back: 11, 12, 20 to 26. `room` is the length of
 /// the lent buffer; the answer's length is the byte count.
 pub fn version_negotiation(
     received: &[u8],
@@ -144,10 +145,16 @@ pub fn version_negotiation(
     let (first, after_first) = received.split_first().ok_or(12)?;
     // "packet to answer has the short form (12 is then judged for emptiness
     // only)"
-    if *first < 128 {
-        return Err(21);
+    let long = match *first {
+        0..=127 => None,
+        _ => Some(long_form(after_first).ok_or(12)?),
+    };
+    // Document 02, C-13: "refuses with 20 when the received datagram is under
+    // 1,200 bytes, judged after 11 and 12 and before 21"
+    if received.len() < MIN_ANSWERED {
+        return Err(20);
     }
-    let long = long_form(after_first).ok_or(12)?;
+    let long = long.ok_or(21)?;
     if long.version == 0 {
         return Err(22);
     }

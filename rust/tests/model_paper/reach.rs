@@ -65,7 +65,7 @@ fn reach_of_the_calls() {
         starts.note(&c.start());
     }
     read.holds(&[0, 11, 12, 13], 40);
-    write.holds(&[0, 11, 12, 21, 22, 23, 24, 25, 26], 40);
+    write.holds(&[0, 11, 12, 20, 21, 22, 23, 24, 25, 26], 40);
     choice.holds(&[0, 40, 41, 42], 40);
     client_reads.holds(&[0, 31, 32, 33, 34, 35, 36], 20);
     server_reads.holds(&[0, 31, 32, 33, 34, 35], 20);

@@ -5,19 +5,31 @@ use crate::model::*;
 use crate::packet;
 use crate::random::{in_fours, long_packet};
 
+/// `bytes` followed by zeros up to `length`.
+fn padded(bytes: &[u8], length: usize) -> Vec<u8> {
+    let mut bytes = bytes.to_vec();
+    bytes.resize(length, 0);
+    bytes
+}
+
 #[test]
 fn whole_case_of_22_bytes() {
     let received = [
         0xC0, 0x00, 0x00, 0x00, 0x0C, 0x02, 0xAA, 0xBB, 0x01, 0xCC, 0xFF,
     ];
+    // "the 22 bytes now come from the same case followed by zeros up to 1,200"
+    let padded = padded(&received, 1_200);
     let sent = [
         0xC0, 0x00, 0x00, 0x00, 0x00, 0x01, 0xCC, 0x02, 0xAA, 0xBB, 0x00, 0x00, 0x00, 0x0E, 0x00,
         0x00, 0x00, 0x0D, 0x00, 0x00, 0x00, 0x0A,
     ];
-    let write = |room| version_negotiation(&received, &[14, 13, 10], 64, room);
+    let write = |room| version_negotiation(&padded, &[14, 13, 10], 64, room);
     assert_eq!(write(22), Ok(sent.to_vec()));
     assert_eq!(write(1_000), Ok(sent.to_vec()));
     assert_eq!(write(21), Err(26));
+    // "Document 01's 11-byte whole case becomes a 20"
+    let small = version_negotiation(&received, &[14, 13, 10], 64, 22);
+    assert_eq!(small, Err(20));
     assert_eq!(
         read_header(&received, 0),
         Ok(Header::Long {
@@ -127,13 +139,13 @@ fn negotiation_headers() {
 
 #[test]
 fn packet_writer_refusals() {
-    let received = |version| long_packet(0, version, &[1], &[], &[]);
+    let received = |version| long_packet(0, version, &[1], &[], &[0; 1_192]);
     let write = |received: &[u8], offered: &[u32]| version_negotiation(received, offered, 128, 0);
     assert_eq!(write(&[0; 65_536], &[]), Err(11));
     assert_eq!(write(&[], &[]), Err(12));
     // "12 is then judged for emptiness only"
-    assert_eq!(write(&[0], &[]), Err(21));
-    assert_eq!(write(&[0x7f], &[]), Err(21));
+    assert_eq!(write(&[0; 1_200], &[]), Err(21));
+    assert_eq!(write(&[0x7f; 1_200], &[]), Err(21));
     assert_eq!(write(&[0x80], &[]), Err(12));
     assert_eq!(write(&received(0), &[]), Err(22));
     assert_eq!(write(&received(0)[..7], &[]), Err(12));
@@ -146,9 +158,36 @@ fn packet_writer_refusals() {
     assert_eq!(sent, [255, 0, 0, 0, 0, 0, 1, 1, 0, 0, 0, 3]);
 }
 
+/// "when the received datagram is under 1,200 bytes, judged after 11 and 12 and
+/// before 21"
+#[test]
+fn small_datagrams() {
+    let write = |received: &[u8]| version_negotiation(received, &[], 128, 0);
+    for first in [0, 0x7f] {
+        assert_eq!(write(&padded(&[first], 1)), Err(20));
+        assert_eq!(write(&padded(&[first], 1_199)), Err(20));
+        assert_eq!(write(&padded(&[first], 1_200)), Err(21));
+    }
+    // A long form that is cut is a 12 at any length.
+    let long = |version| long_packet(0, version, &[1; 255], &[2; 255], &[3; 800]);
+    for version in [0, 2] {
+        for length in 1..517 {
+            assert_eq!(write(&long(version)[..length]), Err(12));
+        }
+        for length in 517..1_200 {
+            assert_eq!(write(&long(version)[..length]), Err(20));
+        }
+    }
+    for length in 1_200..1_317 {
+        // Whether the list is whole, or bytes are left over.
+        assert_eq!(write(&long(0)[..length]), Err(22));
+        assert_eq!(write(&long(2)[..length]), Err(23));
+    }
+}
+
 #[test]
 fn longest_packet() {
-    let received = long_packet(0, 99, &[7; 255], &[8; 255], &[]);
+    let received = long_packet(0, 99, &[7; 255], &[8; 255], &[0; 683]);
     let offered: Vec<u32> = (1..=MAX_TABLE as u32).collect();
     assert_eq!(version_negotiation(&received, &offered, 0, 580), Err(26));
     let sent = version_negotiation(&received, &offered, 0, 581).unwrap();

@@ -1,10 +1,26 @@
 //! Datagrams and Version Information, and whole calls of their readers and writers.
 
 use super::{in_fours, information, long_packet, Random};
-use crate::model::Sender;
+use crate::model::{Sender, MIN_ANSWERED};
 
 /// The longest datagram and the first that is too long.
 const DATAGRAM_EDGE: [usize; 3] = [65_535, 65_535, 65_536];
+
+/// About the fewest bytes of a datagram that is answered; 0 leaves a datagram as short as it is.
+const ANSWERED_EDGE: [usize; 12] = [
+    0,
+    MIN_ANSWERED - 2,
+    MIN_ANSWERED - 1,
+    MIN_ANSWERED - 1,
+    MIN_ANSWERED,
+    MIN_ANSWERED,
+    MIN_ANSWERED,
+    MIN_ANSWERED,
+    MIN_ANSWERED + 1,
+    MIN_ANSWERED + 2,
+    1_252,
+    1_472,
+];
 
 /// Inputs of the header reader.
 #[derive(Debug, Clone)]
@@ -86,6 +102,14 @@ impl Random {
     fn some_bytes(&mut self) -> Vec<u8> {
         let count = *self.pick(&[0, 0, 1, 2, 3, 4, 5, 8, 21, 40, 300, 1200]);
         self.bytes(count)
+    }
+
+    /// The datagram, followed by more bytes up to about the fewest that are answered.
+    fn lengthened(&mut self, mut datagram: Vec<u8>) -> Vec<u8> {
+        let length = *self.pick(&ANSWERED_EDGE);
+        let more = self.bytes(length.saturating_sub(datagram.len()));
+        datagram.extend(more);
+        datagram
     }
 
     /// At the edge of 65,535 bytes; as Version Negotiation also four bytes at
@@ -251,18 +275,22 @@ impl Random {
         };
         let first = self.next_u64() as u8;
         let rest = self.some_bytes();
-        let mut received = long_packet(first, version, &destination, &source, &rest);
+        let received = long_packet(first, version, &destination, &source, &rest);
+        let mut received = self.lengthened(received);
         match self.below(16) {
             0 => received = self.huge_datagram(&destination, &source),
             1 | 2 => received = self.damage(received),
-            3 => received = self.datagram(&destination, &source, &offered),
+            3 => {
+                let other = self.datagram(&destination, &source, &offered);
+                received = self.lengthened(other);
+            }
             4 => {
                 // A field past the end, at any place.
                 let whole = 7 + destination.len() + source.len();
                 let place = self.below(whole);
                 received.truncate(place);
             }
-            5 => received = vec![first & 127],
+            5 => received = self.lengthened(vec![first & 127]),
             _ => {}
         }
         let unused_bits = match self.below(8) {

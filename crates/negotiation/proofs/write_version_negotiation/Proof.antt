@@ -1,4 +1,4 @@
--- `write_version_negotiation` meets its contract: what the header reader answers decides 11 to 22.
+-- `write_version_negotiation` meets its contract: the length and what the header reader answers decide 11 to 22.
 use borrow.Author.Needs.{needs}
 use mathlib.Core.Path.{_≡_, sym, ap, _∙_}
 use native.Mathlib.Omega.{arith}
@@ -10,34 +10,37 @@ use Rattle.invariants.specs.Header.{headerReply}
 use Rattle.invariants.specs.declared.Header.{Header}
 use Rattle.negotiation.specs.Packet.{negotiationPacket}
 use Rattle.negotiation.specs.Parts.{offerAnswer}
-use Rattle.negotiation.proofs.Received.{byHeader, by-reply, LongKnown, long-by-reply}
+use Rattle.negotiation.proofs.Received.{byHeader, by-reply-small, by-reply, LongKnown, long-by-reply}
 use Rattle.negotiation.proofs.Writing.{refuses}
 use Rattle.negotiation.proofs.write_version_negotiation.Statement.{statement}
 use Rattle.negotiation.proofs.write_version_negotiation.Tie as tie
 
--- What has to be written, by what the header reader answers
+-- What has to be written where the datagram is large enough, by what the header reader answers
 decides :
-    (c : tie.After-read-header) (h : Header) →
-    c .read-header .result ≡ h →
-    let args = c .before .before .before .before .args in
+    (c : tie.Else1) (h : Header) →
+    c .before .read-header .result ≡ h →
+    let args = c .before .before .before .before .before .args in
     negotiationPacket (now (args .received)) (now (args .offered)) (args .unused-bits) (length (now (args .buffer))) ≡
     byHeader (headerReply h) (offerAnswer (now (args .received)) (now (args .offered)) (args .unused-bits) (length (now (args .buffer))))
-decides c h is = by-reply _ _ _ _ _ h (c .read-header .ensures) is
+decides c h is = by-reply _ _ _ _ _ h (c .if1 .left) (c .before .read-header .ensures) is
 
 -- What a long form tells
 known :
-    (c : tie.After-version) →
-    let long = c .version .given .0 in
-    LongKnown (now (c .before .before .before .before .before .before .args .received)) (long .0) (long .1 .0) (long .1 .1 .0)
+    (c : tie.After-header2) →
+    let long = c .header2 .given .0 in
+    LongKnown (now (c .before .before .before .before .before .before .before .args .received)) (long .0) (long .1 .0) (long .1 .1 .0)
 known c =
-    long-by-reply _ _ _ _ _ _ (c .before .before .read-header .ensures) (c .version .given .1)
-    (λ i. omega (arith, c .before .before .before .before .before .shared-slice-known .given i))
+    long-by-reply _ _ _ _ _ _ (c .before .before .before .read-header .ensures) (c .header2 .given .1)
+    (λ i. omega (arith, c .before .before .before .before .before .before .shared-slice-known .given i))
 
 read-header-requires : tie.Need-read-header-requires
 read-header-requires c κs = search needs
 
-enum-known-refusal : tie.Need-enum-known-refusal
-enum-known-refusal c = search needs
+of-small-requires : tie.Need-of-small-requires
+of-small-requires c κs = search needs
+
+enum-known-header : tie.Need-enum-known-header
+enum-known-header c = search needs
 
 of-header-requires : tie.Need-of-header-requires
 of-header-requires c κs = search needs
@@ -48,8 +51,8 @@ enum-told c = search needs
 enum-told-2 : tie.Need-enum-told-2
 enum-told-2 c = search needs
 
-enum-known-version : tie.Need-enum-known-version
-enum-known-version c = search needs
+enum-known-header-2 : tie.Need-enum-known-header-2
+enum-known-header-2 c = search needs
 
 sub-write-long : tie.Need-sub-write-long
 sub-write-long c = known (c .before .before) .destination-order
@@ -62,22 +65,29 @@ write-long-requires c κs = let k = known (c .before .before .before .before) in
 
 returns : tie.Need-returns
 returns c =
+    let answer = c .before .before .read-header in
     refuses _ _ _
-    (decides (c .before .before .before .before) _ (c .before .before .refusal .given .1) ∙ ap (refuse Writing) (sym (c .of-header .ensures)))
+    (by-reply-small _ _ _ _ (answer .result) (c .before .if1 .taken) (answer .ensures) ∙
+    ap (refuse Writing) (sym (c .of-small .ensures)))
 
 returns-2 : tie.Need-returns-2
-returns-2 c = refuses _ _ _ (decides (c .before .before) _ (c .enum-told .given .1))
+returns-2 c =
+    refuses _ _ _
+    (decides (c .before .before .before .before) _ (c .before .before .header .given .1) ∙ ap (refuse Writing) (sym (c .of-header .ensures)))
 
 returns-3 : tie.Need-returns-3
-returns-3 c = refuses _ _ _ (decides (c .before .before) _ (c .enum-told2 .given .1))
+returns-3 c = refuses _ _ _ (decides (c .before .before) _ (c .enum-told .given .1))
+
+returns-4 : tie.Need-returns-4
+returns-4 c = refuses _ _ _ (decides (c .before .before) _ (c .enum-told2 .given .1))
 
 same-length : tie.Need-same-length
 same-length c = search needs
 
-returns-4 : tie.Need-returns-4
-returns-4 c =
+returns-5 : tie.Need-returns-5
+returns-5 c =
     let k = c .before .before .before .before .before .before .before in
-    let e = decides (k .before .before) _ (k .version .given .1) in
+    let e = decides (k .before .before) _ (k .header2 .given .1) in
     let long = c .before .before .write-long in
     (rw e (long .ensures .0), rw e (long .ensures .1))
 
@@ -86,16 +96,18 @@ write-version-negotiation-spec =
     tie.close
     (tie.spec
     read-header-requires
-    enum-known-refusal
+    of-small-requires
+    returns
+    enum-known-header
     of-header-requires
     enum-told
     enum-told-2
-    enum-known-version
+    enum-known-header-2
     sub-write-long
     sub-write-long-2
     write-long-requires
-    returns
     returns-2
     returns-3
+    returns-4
     same-length
-    returns-4)
+    returns-5)

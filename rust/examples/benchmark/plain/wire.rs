@@ -4,6 +4,7 @@ use super::choices::is_table;
 use super::{lists, number};
 use quic_version::{
     MAX_AVAILABLE, MAX_CONNECTION_ID, MAX_DATAGRAM, MAX_INFORMATION, MAX_UNUSED_BITS,
+    MIN_ANSWERED_DATAGRAM,
 };
 
 #[derive(Clone, Copy)]
@@ -66,10 +67,14 @@ pub fn write_version_negotiation(
     if received.len() > MAX_DATAGRAM {
         return Err(11);
     }
-    if *received.first().ok_or(12)? < 128 {
-        return Err(21);
+    let long = match *received.first().ok_or(12)? {
+        0..=127 => None,
+        _ => Some(long_form(received)?),
+    };
+    if received.len() < MIN_ANSWERED_DATAGRAM {
+        return Err(20);
     }
-    let (version, header) = long_form(received)?;
+    let (version, header) = long.ok_or(21)?;
     if version == 0 {
         return Err(22);
     }

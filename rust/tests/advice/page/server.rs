@@ -1,6 +1,6 @@
 use quic_version::{
     are_pairs, is_table, read_header, server_choice, write_information, write_version_negotiation,
-    Decision, Header, Pair, Sender, MAX_INFORMATION, MAX_PACKET, VERSION_1, VERSION_2,
+    Decision, Header, Pair, Sender, WriteRefusal, MAX_INFORMATION, MAX_PACKET, VERSION_1, VERSION_2,
 };
 
 /// The length of the connection IDs that this server hands out.
@@ -81,6 +81,7 @@ fn first_flight(layers: &mut impl Layers, id: &[u8], version: u32, datagram: &[u
             let mut packet = [0; MAX_PACKET];
             match write_version_negotiation(datagram, &TABLE, 64, &mut packet) {
                 Ok(count) => layers.send_datagram(&packet[..count]),
+                Err(WriteRefusal::DatagramTooSmall) => {} // Anyone can send one: silence, no log.
                 Err(refusal) => layers.fault(&refusal.to_string()),
             }
         }

@@ -1,8 +1,8 @@
 //! The page's server, run.
 
 use super::*;
-use crate::link::{information, long_form, DESTINATION, SOURCE};
-use quic_version::versions;
+use crate::link::{flight, information, long_form, DESTINATION, SOURCE};
+use quic_version::{versions, MIN_ANSWERED_DATAGRAM};
 
 /// What the server asked of the layers around it.
 #[derive(Debug, PartialEq)]
@@ -14,8 +14,9 @@ enum Asked {
 }
 
 /// A handshake layer whose parameters are a count of bytes and then so many bytes. The first of
-/// them tells whether the rest is Version Information (1) or there is none (0). A datagram whose
-/// rest begins with 0xee cannot be read.
+/// them tells whether the rest is Version Information (1) or there is none (0). The rest of a
+/// datagram is a part of them, its length before it, and padding. A part that begins with 0xee
+/// cannot be read.
 #[derive(Default)]
 struct Around {
     flight: Vec<u8>,
@@ -36,10 +37,11 @@ impl Layers for Around {
             Ok(Header::Long { rest, .. }) => rest,
             _ => unreachable!(),
         };
-        if rest.first() == Some(&0xee) {
+        let part = &rest[1..1 + usize::from(rest[0])];
+        if part.first() == Some(&0xee) {
             return Flight::Unreadable;
         }
-        self.flight.extend(rest);
+        self.flight.extend(part);
         match self.flight.split_first() {
             Some((count, held)) if held.len() == usize::from(*count) => {
                 let information = held[1..].to_vec();
@@ -71,14 +73,12 @@ fn parameters(information: Option<&[u8]>) -> Vec<u8> {
     bytes
 }
 
-/// What a server asks for after the datagrams of a first flight.
-fn after(version: u32, flight: &[&[u8]]) -> Vec<Asked> {
+/// What a server asks for after the datagrams of a first flight, with these parts of the parameters.
+fn after(version: u32, parts: &[&[u8]]) -> Vec<Asked> {
     let mut layers = Around::default();
-    for rest in flight {
-        datagram(
-            &mut layers,
-            &long_form(version, &DESTINATION, &SOURCE, rest),
-        );
+    for part in parts {
+        let rest = [&[part.len() as u8][..], part].concat();
+        datagram(&mut layers, &flight(version, &rest));
     }
     layers.asked
 }
@@ -149,8 +149,8 @@ fn unreadable_is_not_missing() {
 /// A version that is not readable: negotiated at once, whatever the datagram holds.
 #[test]
 fn not_readable() {
-    for rest in [&[][..], &[0xee], &[9, 9]] {
-        let asked = after(14, &[rest]);
+    for part in [&[][..], &[0xee], &[9, 9]] {
+        let asked = after(14, &[part]);
         let packet = match &asked[..] {
             [Asked::Send(packet)] => packet,
             _ => panic!("{:?}", asked),
@@ -167,6 +167,39 @@ fn not_readable() {
             other => panic!("{:?}", other),
         }
     }
+}
+
+/// A datagram that is too small to open a connection gets no answer, and nothing is logged, whatever
+/// the version: `fault` panics here. One byte more, and it is answered.
+#[test]
+fn too_small() {
+    for version in [14, 0x1a2a_3a4a, u32::MAX] {
+        let whole = flight(version, &[]);
+        assert_eq!(whole.len(), MIN_ANSWERED_DATAGRAM);
+        let mut layers = Around::default();
+        for length in 0..whole.len() {
+            datagram(&mut layers, &whole[..length]);
+        }
+        assert_eq!(layers.asked, []);
+        datagram(&mut layers, &whole);
+        match &layers.asked[..] {
+            [Asked::Send(packet)] => assert!(packet.len() <= whole.len()),
+            asked => panic!("{:?}", asked),
+        }
+    }
+}
+
+/// What the page warns of: one packet of a datagram, handed over in the place of the datagram.
+#[test]
+fn a_packet_is_not_the_datagram() {
+    let datagram = flight(14, &[]);
+    let mut packet = [0; MAX_PACKET];
+    let mut write = |bytes: &[u8]| write_version_negotiation(bytes, &TABLE, 64, &mut packet);
+    assert!(write(&datagram).is_ok());
+    assert_eq!(
+        write(&datagram[..300]),
+        Err(WriteRefusal::DatagramTooSmall)
+    );
 }
 
 #[test]

@@ -16,6 +16,7 @@ fn limits() {
     assert_eq!(quic_version::MAX_ID, model::MAX_ID);
     assert_eq!(quic_version::MAX_DATAGRAM, model::MAX_DATAGRAM);
     assert_eq!(quic_version::MAX_CONNECTION_ID, model::MAX_WIRE_ID);
+    assert_eq!(quic_version::MIN_ANSWERED_DATAGRAM, model::MIN_ANSWERED);
     assert_eq!(quic_version::MAX_UNUSED_BITS, model::MAX_UNUSED_BITS);
     assert_eq!(quic_version::MAX_INFORMATION, model::MAX_INFORMATION);
     assert_eq!(quic_version::MAX_AVAILABLE, model::MAX_AVAILABLE);

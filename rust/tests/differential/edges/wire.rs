@@ -3,13 +3,14 @@
 use crate::checks::*;
 use crate::model::Event;
 use crate::random;
-use quic_version::MAX_PACKET;
+use quic_version::{MAX_PACKET, MIN_ANSWERED_DATAGRAM};
 
 #[test]
 fn every_length_of_a_datagram_cut_short() {
-    let whole = random::long_packet(0, 12, &[7; 255], &[8; 3], &[9; 9]);
-    let negotiation = random::long_packet(0, 0, &[7; 3], &[8; 255], &[9; 9]);
-    let short: Vec<u8> = (0..127).cycle().take(300).collect();
+    let rest = vec![9; MIN_ANSWERED_DATAGRAM];
+    let whole = random::long_packet(0, 12, &[7; 255], &[8; 3], &rest);
+    let negotiation = random::long_packet(0, 0, &[7; 3], &[8; 255], &rest);
+    let short: Vec<u8> = (0..127).cycle().take(rest.len() + 300).collect();
     for datagram in [whole, negotiation, short] {
         for length in 0..=datagram.len() {
             let cut = &datagram[..length];
@@ -26,6 +27,25 @@ fn every_length_of_a_datagram_cut_short() {
                 check_read_header(cut, told).unwrap();
             }
             check_write_version_negotiation(cut, &[14, 13], 64, MAX_PACKET).unwrap();
+        }
+    }
+}
+
+/// The fewest bytes that are answered, and each other fault beside them.
+#[test]
+fn datagrams_about_the_fewest_that_are_answered() {
+    let about = MIN_ANSWERED_DATAGRAM - 3..=MIN_ANSWERED_DATAGRAM + 3;
+    let lengths: Vec<usize> = (0..9).chain(about).chain([65_535, 65_536]).collect();
+    for (first, version) in [(0x80, 0), (0x80, 12), (0xff, 12), (0x7f, 12)] {
+        let mut datagram = random::long_packet(first, version, &[], &[], &[1; 65_536]);
+        datagram[0] = first;
+        for length in &lengths {
+            for offered in [&[14, 13][..], &[14, 12], &[14, 14], &[]] {
+                for (bits, room) in [(0, 0), (127, MAX_PACKET), (128, 0), (255, MAX_PACKET)] {
+                    let received = &datagram[..*length];
+                    check_write_version_negotiation(received, offered, bits, room).unwrap();
+                }
+            }
         }
     }
 }
@@ -48,7 +68,8 @@ fn longest_datagrams() {
 
 #[test]
 fn every_length_of_the_buffer() {
-    let received = random::long_packet(0, 12, &[7; 20], &[8; 3], &[]);
+    let rest = [1; MIN_ANSWERED_DATAGRAM];
+    let received = random::long_packet(0, 12, &[7; 20], &[8; 3], &rest);
     let offered: Vec<u32> = (100..116).collect();
     for room in 0..=100 {
         check_write_version_negotiation(&received, &offered, 127, room).unwrap();
@@ -57,7 +78,7 @@ fn every_length_of_the_buffer() {
     }
     for (destination, source) in [(255, 255), (0, 255), (255, 0), (0, 0)] {
         let (destination, source) = (vec![7; destination], vec![8; source]);
-        let received = random::long_packet(0, 12, &destination, &source, &[1]);
+        let received = random::long_packet(0, 12, &destination, &source, &rest);
         for room in 70..=590 {
             check_write_version_negotiation(&received, &offered, 0, room).unwrap();
         }
@@ -66,7 +87,7 @@ fn every_length_of_the_buffer() {
 
 #[test]
 fn every_number_of_unused_bits() {
-    let received = random::long_packet(0, 12, &[7; 2], &[8], &[]);
+    let received = random::long_packet(0, 12, &[7; 2], &[8], &[9; MIN_ANSWERED_DATAGRAM]);
     for bits in 0..=u8::MAX {
         check_write_version_negotiation(&received, &[14, 13, 10], bits, 30).unwrap();
     }

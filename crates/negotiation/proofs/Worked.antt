@@ -1,0 +1,80 @@
+-- The whole case of documents 01 and 02, and the writer's refusals about 1,200 bytes. Each is computed from the
+-- definitions alone.
+use Prim.Native.Nat.{ℕ}
+use mathlib.Core.List.{List, [], _∷_, _++_}
+use mathlib.Core.Path.{_≡_, refl}
+use lib.ListN.{replicate}
+use Rattle.refusals.specs.Reply.{Reply, Reply.answered, refuse}
+use Rattle.refusals.specs.declared.Call.the-variants.{Writing}
+use Rattle.versions.specs.Table.{elem, entriesKeepRule, tableKeepsRule}
+use Rattle.versions.specs.Version.{reserved, usable}
+use Rattle.lists.specs.Wire.{allBelow, listBytes}
+use Rattle.negotiation.specs.Laws.{ReadBack}
+use Rattle.negotiation.specs.Packet.{packetFor, negotiationPacket}
+use Rattle.negotiation.proofs.Packets.{read-back}
+
+-- Document 01: "received `C0 00 00 00 0C 02 AA BB 01 CC FF`, offered 14, 13, 10, bits 64"
+abbrev pub caseBytes : List ℕ
+caseBytes = 0xC0 ∷ 0x00 ∷ 0x00 ∷ 0x00 ∷ 0x0C ∷ 0x02 ∷ 0xAA ∷ 0xBB ∷ 0x01 ∷ 0xCC ∷ 0xFF ∷ []
+
+abbrev pub caseOffered : List ℕ
+caseOffered = 14 ∷ 13 ∷ 10 ∷ []
+
+-- Document 02, C-13: "the same case followed by zeros up to 1,200"
+abbrev pub caseReceived : List ℕ
+caseReceived = caseBytes ++ replicate 1189 0
+
+-- "the 22 bytes `C0 00 00 00 00 01 CC 02 AA BB 00 00 00 0E 00 00 00 0D 00 00 00 0A`"
+abbrev pub casePacket : List ℕ
+casePacket =
+    0xC0 ∷ 0x00 ∷ 0x00 ∷ 0x00 ∷ 0x00 ∷ 0x01 ∷ 0xCC ∷ 0x02 ∷ 0xAA ∷ 0xBB ∷
+    0x00 ∷ 0x00 ∷ 0x00 ∷ 0x0E ∷ 0x00 ∷ 0x00 ∷ 0x00 ∷ 0x0D ∷ 0x00 ∷ 0x00 ∷ 0x00 ∷ 0x0A ∷ []
+
+pub whole-case : negotiationPacket caseReceived caseOffered 64 22 ≡ answered casePacket
+unfolding negotiationPacket packetFor listBytes tableKeepsRule entriesKeepRule elem usable reserved
+whole-case = refl
+
+-- It meets the premises of `read-back`
+pub whole-case-read : ReadBack caseReceived caseOffered casePacket
+unfolding allBelow
+whole-case-read = read-back caseReceived caseOffered 64 22 casePacket whole-case refl refl
+
+-- The answer to bytes followed by so many zeros, the rest as in the whole case
+abbrev answerTo : List ℕ → ℕ → Reply (List ℕ)
+answerTo bytes zeros = negotiationPacket (bytes ++ replicate zeros 0) caseOffered 64 22
+
+-- "judged after 11 and 12 and before 21"
+pub record AtTheLimit : Type 0 where
+  -- "Document 01's 11-byte whole case becomes a 20"
+  pub eleven : answerTo caseBytes 0 ≡ refuse Writing 20
+  -- one byte under the limit, and one over it
+  pub under : answerTo caseBytes 1188 ≡ refuse Writing 20
+  pub over : answerTo caseBytes 1190 ≡ answered casePacket
+  -- 12 before 20: no bytes, and a long form whose source ID of 255 bytes is cut
+  pub empty : answerTo [] 0 ≡ refuse Writing 12
+  pub cut : answerTo (0xC0 ∷ 0 ∷ 0 ∷ 0 ∷ 12 ∷ 0 ∷ 255 ∷ []) 254 ≡ refuse Writing 12
+  pub whole : answerTo (0xC0 ∷ 0 ∷ 0 ∷ 0 ∷ 12 ∷ 0 ∷ 255 ∷ []) 255 ≡ refuse Writing 20
+  -- 20 before 21
+  pub short : answerTo (0x40 ∷ []) 1198 ≡ refuse Writing 20
+  pub short-large : answerTo (0x40 ∷ []) 1199 ≡ refuse Writing 21
+  -- 20 before 22, whether the list is whole (1,192 bytes), or bytes are left over (1,193)
+  pub negotiation : answerTo (0x80 ∷ []) 1198 ≡ refuse Writing 20
+  pub negotiation-left-over : answerTo (0x80 ∷ []) 1199 ≡ refuse Writing 22
+  pub negotiation-large : answerTo (0x80 ∷ []) 1202 ≡ refuse Writing 22
+
+pub at-the-limit : AtTheLimit
+unfolding negotiationPacket packetFor listBytes tableKeepsRule entriesKeepRule elem usable reserved
+at-the-limit =
+    record {
+      eleven = refl;
+      under = refl;
+      over = refl;
+      empty = refl;
+      cut = refl;
+      whole = refl;
+      short = refl;
+      short-large = refl;
+      negotiation = refl;
+      negotiation-left-over = refl;
+      negotiation-large = refl;
+    }
