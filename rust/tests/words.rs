@@ -12,9 +12,7 @@ const READING: [u8; 27] = [
 ];
 
 /// The numbers of writers.
-const WRITING: [u8; 15] = [
-    11, 12, 20, 21, 22, 23, 24, 25, 26, 33, 34, 35, 36, 37, 255,
-];
+const WRITING: [u8; 15] = [11, 12, 20, 21, 22, 23, 24, 25, 26, 33, 34, 35, 36, 37, 255];
 
 /// A number with its name and its words.
 type Row = (u8, String, String);

@@ -154,7 +154,7 @@ fn slip_compared_with_the_version_in_use() {
 
 #[test]
 fn slip_ids_not_swapped() {
-    let received = long_packet(0, 12, DESTINATION, SOURCE, &[]);
+    let received = long_packet(0, 12, DESTINATION, SOURCE, &[0; MIN_ANSWERED]);
     let sent = version_negotiation(&received, &[14], 0, usize::MAX).unwrap();
     assert_eq!(sent, packet(SOURCE, DESTINATION, &[14]));
     let mut attempt = begin(&[14, 12], &[], 12);

@@ -75,6 +75,27 @@ fn reach_of_the_calls() {
     starts.holds(&[0, 41, 43, 44, 45], 40);
 }
 
+/// Datagrams to answer: just too small, just large enough, and larger, with each
+/// answer that depends on it.
+#[test]
+fn reach_of_the_fewest_bytes() {
+    let mut random = Random::new(3);
+    let (mut under, mut at, mut over) = <(Reach, Reach, Reach)>::default();
+    for _ in 0..8_000 {
+        let c = random.negotiation_call();
+        let answer = version_negotiation(&c.received, &c.offered, c.unused_bits, c.room);
+        match c.received.len() {
+            1_199 => under.note(&answer),
+            1_200 => at.note(&answer),
+            1_201..=1_600 => over.note(&answer),
+            _ => {}
+        }
+    }
+    under.holds(&[20], 400);
+    at.holds(&[0, 21, 22, 23, 24, 25, 26], 20);
+    over.holds(&[0, 21, 22, 23, 24, 25, 26], 20);
+}
+
 /// Event lists: their reach, and the step by step answer against the
 /// statement on the whole list.
 #[test]

@@ -196,10 +196,7 @@ fn a_packet_is_not_the_datagram() {
     let mut packet = [0; MAX_PACKET];
     let mut write = |bytes: &[u8]| write_version_negotiation(bytes, &TABLE, 64, &mut packet);
     assert!(write(&datagram).is_ok());
-    assert_eq!(
-        write(&datagram[..300]),
-        Err(WriteRefusal::DatagramTooSmall)
-    );
+    assert_eq!(write(&datagram[..300]), Err(WriteRefusal::DatagramTooSmall));
 }
 
 #[test]
