@@ -17,7 +17,7 @@ use refusals::Close;
 use refusals::Refusal;
 use versions::MAX_TABLE;
 
-// The version of this interface; it changes with every function or record that changes.
+// The version of this interface; it changes with every function, record or answer that changes.
 pub const INTERFACE_VERSION: u32 = 3;
 // The size of the record in bytes.
 pub const RECORD_SIZE: usize = 12 * MAX_TABLE + 2 * MAX_ID + 40;

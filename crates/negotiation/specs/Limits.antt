@@ -8,8 +8,8 @@ use Rattle.invariants.specs.Limits.{maxConnectionID}
 abbrev pub maxUnusedBits : ℕ
 maxUnusedBits = 127
 
--- Document 02, C-13: "when the received datagram is under 1,200 bytes". RFC 9000 section 14.1: the least that a
--- datagram of a client has that could open a connection
+-- Document 02, C-13: "when the received datagram is under 1,200 bytes". RFC 9000 section 14.1: a client expands every
+-- datagram with an Initial packet to at least 1200 bytes, so no smaller one opens a connection
 abbrev pub minAnsweredDatagram : ℕ
 minAnsweredDatagram = 1200
 

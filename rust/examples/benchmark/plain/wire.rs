@@ -67,14 +67,17 @@ pub fn write_version_negotiation(
     if received.len() > MAX_DATAGRAM {
         return Err(11);
     }
-    let long = match *received.first().ok_or(12)? {
-        0..=127 => None,
-        _ => Some(long_form(received)?),
-    };
+    let is_short = *received.first().ok_or(12)? < 128;
     if received.len() < MIN_ANSWERED_DATAGRAM {
+        if !is_short {
+            long_form(received)?;
+        }
         return Err(20);
     }
-    let (version, header) = long.ok_or(21)?;
+    if is_short {
+        return Err(21);
+    }
+    let (version, header) = long_form(received)?;
     if version == 0 {
         return Err(22);
     }
