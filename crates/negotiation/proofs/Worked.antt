@@ -1,9 +1,9 @@
 -- The whole case of documents 01 and 02, and the writer's refusals about 1,200 bytes. Each is computed from the
 -- definitions alone.
-use Prim.Native.Nat.{ℕ}
+use Prim.Native.Nat.{ℕ, _≤_}
 use mathlib.Core.List.{List, [], _∷_, _++_}
 use mathlib.Core.Path.{_≡_, refl}
-use lib.ListN.{replicate}
+use lib.ListN.{length, replicate}
 use Rattle.refusals.specs.Reply.{Reply, Reply.answered, refuse}
 use Rattle.refusals.specs.declared.Call.the-variants.{Writing}
 use Rattle.versions.specs.Table.{elem, entriesKeepRule, tableKeepsRule}
@@ -11,7 +11,7 @@ use Rattle.versions.specs.Version.{reserved, usable}
 use Rattle.lists.specs.Wire.{allBelow, listBytes}
 use Rattle.negotiation.specs.Laws.{ReadBack}
 use Rattle.negotiation.specs.Packet.{packetFor, negotiationPacket}
-use Rattle.negotiation.proofs.Packets.{read-back}
+use Rattle.negotiation.proofs.Packets.{read-back, never-longer}
 
 -- Document 01: "received `C0 00 00 00 0C 02 AA BB 01 CC FF`, offered 14, 13, 10, bits 64"
 abbrev pub caseBytes : List ℕ
@@ -34,10 +34,14 @@ pub whole-case : negotiationPacket caseReceived caseOffered 64 22 ≡ answered c
 unfolding negotiationPacket packetFor listBytes tableKeepsRule entriesKeepRule elem usable reserved
 whole-case = refl
 
--- It meets the premises of `read-back`
+-- It meets the premises of `read-back` and of `never-longer`
 pub whole-case-read : ReadBack caseReceived caseOffered casePacket
 unfolding allBelow
 whole-case-read = read-back caseReceived caseOffered 64 22 casePacket whole-case refl refl
+
+pub whole-case-no-longer : length casePacket ≤ length caseReceived
+unfolding allBelow
+whole-case-no-longer = never-longer caseReceived caseOffered 64 22 casePacket whole-case refl
 
 -- The answer to bytes followed by so many zeros, the rest as in the whole case
 abbrev answerTo : List ℕ → ℕ → Reply (List ℕ)
@@ -57,10 +61,11 @@ pub record AtTheLimit : Type 0 where
   -- 20 before 21
   pub short : answerTo (0x40 ∷ []) 1198 ≡ refuse Writing 20
   pub short-large : answerTo (0x40 ∷ []) 1199 ≡ refuse Writing 21
-  -- 20 before 22, whether the list is whole (1,192 bytes), or bytes are left over (1,193)
-  pub negotiation : answerTo (0x80 ∷ []) 1198 ≡ refuse Writing 20
-  pub negotiation-left-over : answerTo (0x80 ∷ []) 1199 ≡ refuse Writing 22
-  pub negotiation-large : answerTo (0x80 ∷ []) 1202 ≡ refuse Writing 22
+  -- 20 before 22, where the list of versions is whole, and where one byte is left over
+  pub list-whole : answerTo (0x80 ∷ []) 1198 ≡ refuse Writing 20
+  pub list-left-over : answerTo (0x80 ∷ []) 1195 ≡ refuse Writing 20
+  pub list-whole-large : answerTo (0x80 ∷ []) 1202 ≡ refuse Writing 22
+  pub list-left-over-large : answerTo (0x80 ∷ []) 1199 ≡ refuse Writing 22
 
 pub at-the-limit : AtTheLimit
 unfolding negotiationPacket packetFor listBytes tableKeepsRule entriesKeepRule elem usable reserved
@@ -74,7 +79,8 @@ at-the-limit =
       whole = refl;
       short = refl;
       short-large = refl;
-      negotiation = refl;
-      negotiation-left-over = refl;
-      negotiation-large = refl;
+      list-whole = refl;
+      list-left-over = refl;
+      list-whole-large = refl;
+      list-left-over-large = refl;
     }
