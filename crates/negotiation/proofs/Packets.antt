@@ -13,8 +13,7 @@ use Rattle.refusals.specs.Reply.{Reply, Reply.refused, Reply.answered, refuse}
 use Rattle.refusals.specs.Rule.{Rule, Rule._when_, clear}
 use Rattle.refusals.specs.declared.Call.the-variants.{Writing}
 use Rattle.refusals.proofs.Rules.{both-true, lowest-clear, lowest-applies}
-use Rattle.versions.specs.Table.{elem, entriesKeepRule, tableKeepsRule}
-use Rattle.versions.specs.Version.{reserved, usable}
+use Rattle.versions.specs.Table.{elem, tableKeepsRule}
 use Rattle.lists.specs.Wire.{allBelow, entries, listBytes, versionBytes}
 use Rattle.versions.proofs.Lists.{part-rest, table-counts}
 use Rattle.lists.proofs.Entries.{allBelow-head, entries-listBytes, length-listBytes}

@@ -15,11 +15,18 @@ use Rattle.negotiation.proofs.Writing.{refuses}
 use Rattle.negotiation.proofs.write_version_negotiation.Statement.{statement}
 use Rattle.negotiation.proofs.write_version_negotiation.Tie as tie
 
+-- The start, seen from the header reader's answer, and the datagram that is large enough, seen from its long form
+abbrev start : tie.After-read-header → tie.Start
+start c = c .before .before .before .before
+
+abbrev large : tie.After-header2 → tie.Else1
+large c = c .before .before
+
 -- What has to be written where the datagram is large enough, by what the header reader answers
 decides :
     (c : tie.Else1) (h : Header) →
     c .before .read-header .result ≡ h →
-    let args = c .before .before .before .before .before .args in
+    let args = start (c .before) .args in
     negotiationPacket (now (args .received)) (now (args .offered)) (args .unused-bits) (length (now (args .buffer))) ≡
     byHeader (headerReply h) (offerAnswer (now (args .received)) (now (args .offered)) (args .unused-bits) (length (now (args .buffer))))
 decides c h is = by-reply _ _ _ _ _ h (c .if1 .left) (c .before .read-header .ensures) is
@@ -28,10 +35,11 @@ decides c h is = by-reply _ _ _ _ _ h (c .if1 .left) (c .before .read-header .en
 known :
     (c : tie.After-header2) →
     let long = c .header2 .given .0 in
-    LongKnown (now (c .before .before .before .before .before .before .before .args .received)) (long .0) (long .1 .0) (long .1 .1 .0)
+    LongKnown (now (start (large c .before) .args .received)) (long .0) (long .1 .0) (long .1 .1 .0)
 known c =
-    long-by-reply _ _ _ _ _ _ (c .before .before .before .read-header .ensures) (c .header2 .given .1)
-    (λ i. omega (arith, c .before .before .before .before .before .before .shared-slice-known .given i))
+    let read = large c .before in
+    long-by-reply _ _ _ _ _ _ (read .read-header .ensures) (c .header2 .given .1)
+    (λ i. omega (arith, read .before .before .before .shared-slice-known .given i))
 
 read-header-requires : tie.Need-read-header-requires
 read-header-requires c κs = search needs
@@ -72,8 +80,9 @@ returns c =
 
 returns-2 : tie.Need-returns-2
 returns-2 c =
+    let told = c .before .before in
     refuses _ _ _
-    (decides (c .before .before .before .before) _ (c .before .before .header .given .1) ∙ ap (refuse Writing) (sym (c .of-header .ensures)))
+    (decides (told .before .before) _ (told .header .given .1) ∙ ap (refuse Writing) (sym (c .of-header .ensures)))
 
 returns-3 : tie.Need-returns-3
 returns-3 c = refuses _ _ _ (decides (c .before .before) _ (c .enum-told .given .1))
@@ -87,7 +96,7 @@ same-length c = search needs
 returns-5 : tie.Need-returns-5
 returns-5 c =
     let k = c .before .before .before .before .before .before .before in
-    let e = decides (k .before .before) _ (k .header2 .given .1) in
+    let e = decides (large k) _ (k .header2 .given .1) in
     let long = c .before .before .write-long in
     (rw e (long .ensures .0), rw e (long .ensures .1))
 
