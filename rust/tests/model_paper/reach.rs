@@ -84,6 +84,9 @@ fn reach_of_the_fewest_bytes() {
     for _ in 0..8_000 {
         let c = random.negotiation_call();
         let answer = version_negotiation(&c.received, &c.offered, c.unused_bits, c.room);
+        if let Ok(packet) = &answer {
+            assert!(packet.len() <= c.received.len());
+        }
         match c.received.len() {
             1_199 => under.note(&answer),
             1_200 => at.note(&answer),

@@ -8,6 +8,7 @@ const OUR_ID_LENGTH: usize = 8;
 
 /// The layers around, which are yours.
 trait Layers {
+    /// In datagrams of `MIN_ANSWERED_DATAGRAM` bytes or more.
     fn send_first_flight(&mut self, version: u32, information: &[u8]);
     /// Removes packet protection with the keys of a version, `None` for a short form; drops what it
     /// cannot read.
