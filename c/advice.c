@@ -143,11 +143,12 @@ struct flight add_to_flight(const uint8_t *id, size_t id_len, uint32_t version,
 {
     struct flight flight = {FLIGHT_UNREADABLE, QV_MISSING, NULL, 0};
     const uint8_t *rest = datagram + 7 + 2 * OUR_ID_LENGTH;
-    size_t rest_len = datagram_len - 7 - 2 * OUR_ID_LENGTH;
+    size_t rest_len;
 
     (void)id;
     EXPECT(id_len == OUR_ID_LENGTH && version != 14);
-    EXPECT(rest_len > 0 && rest_len > rest[0]);
+    if (datagram_len < QV_MIN_ANSWERED_DATAGRAM)
+        return flight;
     rest_len = *rest++; /* of the part; then padding */
     if (rest_len == 0 || rest[0] == 0xee)
         return flight;
@@ -173,6 +174,14 @@ void go_on(uint32_t version, const uint8_t *information, size_t information_len)
 void send_datagram(const uint8_t *datagram, size_t datagram_len)
 {
     send_bytes("send", datagram, datagram_len);
+}
+
+static size_t too_small;
+
+void unanswered(uint32_t refusal)
+{
+    EXPECT(refusal == QV_DATAGRAM_TOO_SMALL);
+    too_small++;
 }
 
 /* What goes over the link. */
@@ -382,11 +391,16 @@ static void server(void)
     flight(14, unreadable, 1, 1);
     EXPECT(was_asked("send ") && sent_len == 7 + 2 * OUR_ID_LENGTH + 8);
 
-    /* The same in a datagram that is too small to open a connection: silence, and no log. */
+    /* The same in a datagram that is too small to open a connection: counted, and no log. */
     datagram_of(small, 14, unreadable, 1);
     for (cut = 0; cut < sizeof small; cut++)
         server_datagram(small, cut);
-    EXPECT(was_asked(""));
+    EXPECT(was_asked("") && too_small == sizeof small - 7 - 2 * OUR_ID_LENGTH);
+
+    /* In a readable version the stack drops it, and nothing is decided. */
+    datagram_of(small, VERSION_1, missing, 2);
+    server_datagram(small, sizeof small - 1);
+    EXPECT(was_asked("") && too_small == sizeof small - 7 - 2 * OUR_ID_LENGTH);
 
     /* Version Negotiation, a datagram cut short, a short form of no connection: silence. */
     server_datagram(packet, long_form(packet, 0, destination, source, missing, 2));

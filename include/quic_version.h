@@ -53,7 +53,7 @@ extern "C" {
 /* Bytes of a Version Negotiation packet that is written. */
 #define QV_MAX_PACKET (7u + 2u * QV_MAX_CONNECTION_ID + 4u * QV_MAX_TABLE)
 
-/* Refusals: document 01's numbers, each with its one cause. */
+/* Refusals: the numbers of document 01's table, which document 02's join, each with one cause. */
 #define QV_OK 0u
 #define QV_DATAGRAM_TOO_LONG 11u             /* over 65,535 bytes */
 #define QV_TRUNCATED 12u                     /* empty, a field past the end, a told length over 255 */

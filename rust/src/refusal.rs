@@ -100,8 +100,8 @@ macro_rules! refusals {
 }
 
 refusals! {
-    /// Why an answer is no: document 01's number under a name for its cause. Writers have a type of
-    /// their own, [`WriteRefusal`].
+    /// Why an answer is no: the number in document 01's table under a name for its cause. Writers
+    /// have a type of their own, [`WriteRefusal`].
     ///
     /// [`NotValid`](Refusal::NotValid) is the one number outside document 01's table. This crate
     /// hands over no unknown kind and no record but an attempt's, so it does not occur.
@@ -137,11 +137,11 @@ refusals! {
 }
 
 refusals! {
-    /// Why a writer wrote nothing: document 01's number under a name for its cause.
+    /// Why a writer wrote nothing: the number in document 01's table under a name for its cause.
     ///
-    /// It closes nothing: what was to be written came from the caller, and a datagram that gets no
-    /// Version Negotiation packet has no connection. So it has no close code, and does not turn
-    /// into a [`Refusal`], which may have one:
+    /// It closes nothing: it is about what the caller wants to send, or says that a received
+    /// datagram gets no Version Negotiation packet. So it has no close code, and does not turn into
+    /// a [`Refusal`], which may have one:
     ///
     /// ```
     /// # use quic_version::{write_information, Sender};

@@ -9,7 +9,7 @@ abbrev pub maxUnusedBits : ℕ
 maxUnusedBits = 127
 
 -- Document 02, C-13: "when the received datagram is under 1,200 bytes". RFC 9000 section 14.1: a client expands every
--- datagram with an Initial packet to at least 1200 bytes, so no smaller one opens a connection
+-- datagram with an Initial packet to at least 1200 bytes, so in version 1 no smaller one opens a connection
 abbrev pub minAnsweredDatagram : ℕ
 minAnsweredDatagram = 1200
 

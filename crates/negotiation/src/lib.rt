@@ -23,7 +23,7 @@ use refusals::Written;
 use versions::table::contains;
 use versions::table::is_table;
 
-// The fewest bytes of a datagram that is answered: no smaller one opens a connection (RFC 9000 section 14.1).
+// The fewest bytes of a datagram that is answered: in version 1 no smaller one opens a connection (RFC 9000 section 14.1).
 pub const MIN_ANSWERED_DATAGRAM: usize = 1200;
 
 // The largest value of the unused bits of a Version Negotiation packet's first byte.

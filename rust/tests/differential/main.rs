@@ -1,4 +1,4 @@
-//! The library against the model of document 01: seeded inputs, whole ranges and edges.
+//! The library against the model of documents 01 and 02: seeded inputs, whole ranges and edges.
 //!
 //! `cargo test --release` makes some four million comparisons. QUIC_VERSION_SEED (a number) gives
 //! other inputs, QUIC_VERSION_ROUNDS (a number) more or fewer of them.

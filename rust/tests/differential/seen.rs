@@ -36,7 +36,7 @@ impl Seen {
         self.functions.values().sum()
     }
 
-    /// Those of document 01's numbers that were not.
+    /// Those of `NUMBERS` that were not.
     pub fn never(&self) -> Vec<u8> {
         let seen = |number: &u8| self.numbers.contains_key(&u32::from(*number));
         NUMBERS.iter().copied().filter(|n| !seen(n)).collect()

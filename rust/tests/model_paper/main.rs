@@ -1,4 +1,4 @@
-//! The model against document 01's worked calls, its edges and slips that
+//! The model against the worked calls of documents 01 and 02, their edges and slips that
 //! well-known implementations made; and the seeded inputs' reach.
 
 mod attempts;

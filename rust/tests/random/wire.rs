@@ -104,9 +104,14 @@ impl Random {
         self.bytes(count)
     }
 
-    /// The datagram, followed by more bytes up to about the fewest that are answered.
+    /// The datagram, followed by more bytes up to about the fewest that are answered, or, one in
+    /// twenty, to any length that a datagram may have.
     fn lengthened(&mut self, mut datagram: Vec<u8>) -> Vec<u8> {
-        let length = *self.pick(&ANSWERED_EDGE);
+        let length = if self.one_in(20) {
+            self.below(65_536)
+        } else {
+            *self.pick(&ANSWERED_EDGE)
+        };
         let more = self.bytes(length.saturating_sub(datagram.len()));
         datagram.extend(more);
         datagram

@@ -28,10 +28,13 @@ trait Layers {
     /// Whether a version was chosen for this destination ID.
     fn has_connection(&self, id: &[u8]) -> bool;
     fn to_connection(&mut self, id: &[u8], datagram: &[u8]);
-    /// Adds a datagram to the first flight with this destination ID, which has one version.
+    /// Adds a datagram to the first flight with this destination ID, which has one version. One that
+    /// is too small for this version is `Unreadable`.
     fn add_to_flight(&mut self, id: &[u8], version: u32, datagram: &[u8]) -> Flight;
     fn go_on(&mut self, id: &[u8], version: u32, information: &[u8]);
     fn send_datagram(&mut self, datagram: &[u8]);
+    /// Counts the datagrams that get no packet. Anyone can send them, so they get no line in a log.
+    fn unanswered(&mut self, refusal: WriteRefusal);
     fn close_connection(&mut self, id: &[u8], code: u64);
     /// A fault of the configuration: for the log, not for the client.
     fn fault(&mut self, text: &str);
@@ -77,17 +80,28 @@ fn first_flight(layers: &mut impl Layers, id: &[u8], version: u32, datagram: &[u
                 Err(refusal) => layers.fault(&refusal.to_string()),
             }
         }
-        Ok(Decision::Negotiate) => {
-            let mut packet = [0; MAX_PACKET];
-            match write_version_negotiation(datagram, &TABLE, 64, &mut packet) {
-                Ok(count) => layers.send_datagram(&packet[..count]),
-                Err(WriteRefusal::DatagramTooSmall) => {} // Anyone can send one: silence, no log.
-                Err(refusal) => layers.fault(&refusal.to_string()),
-            }
-        }
+        Ok(Decision::Negotiate) => negotiate(layers, datagram),
         Err(refusal) => match refusal.close_code() {
             Some(code) => layers.close_connection(id, code),
             None => layers.fault(&refusal.to_string()), // 41, 43
         },
+    }
+}
+
+/// Once for a datagram, with all of it.
+fn negotiate(layers: &mut impl Layers, datagram: &[u8]) {
+    use WriteRefusal::{DatagramTooLong, DatagramTooSmall, ShortForm, Truncated};
+
+    let mut packet = [0; MAX_PACKET];
+    match write_version_negotiation(datagram, &TABLE, 64, &mut packet) {
+        Ok(count) => layers.send_datagram(&packet[..count]),
+        Err(
+            refusal @ (DatagramTooLong
+            | Truncated
+            | DatagramTooSmall
+            | ShortForm
+            | WriteRefusal::VersionNegotiationReceived),
+        ) => layers.unanswered(refusal),
+        Err(refusal) => layers.fault(&refusal.to_string()), // 23 to 26
     }
 }

@@ -22,6 +22,7 @@ struct Around {
     flight: Vec<u8>,
     connections: Vec<Vec<u8>>,
     asked: Vec<Asked>,
+    unanswered: Vec<WriteRefusal>,
 }
 
 impl Layers for Around {
@@ -33,6 +34,9 @@ impl Layers for Around {
     }
     fn add_to_flight(&mut self, id: &[u8], _: u32, datagram: &[u8]) -> Flight {
         assert_eq!(id, DESTINATION);
+        if datagram.len() < MIN_ANSWERED_DATAGRAM {
+            return Flight::Unreadable;
+        }
         let rest = match read_header(datagram, OUR_ID_LENGTH) {
             Ok(Header::Long { rest, .. }) => rest,
             _ => unreachable!(),
@@ -56,6 +60,9 @@ impl Layers for Around {
     }
     fn send_datagram(&mut self, datagram: &[u8]) {
         self.asked.push(Asked::Send(datagram.to_vec()));
+    }
+    fn unanswered(&mut self, refusal: WriteRefusal) {
+        self.unanswered.push(refusal);
     }
     fn close_connection(&mut self, _: &[u8], code: u64) {
         self.asked.push(Asked::Close(code));
@@ -169,18 +176,21 @@ fn not_readable() {
     }
 }
 
-/// A datagram that is too small to open a connection gets no answer, and nothing is logged, whatever
-/// the version: `fault` panics here. One byte more, and it is answered.
+/// A datagram that is too small to open a connection gets no answer; it is counted and not logged
+/// (`fault` panics here), whatever the version. One byte more, and it is answered.
 #[test]
 fn too_small() {
     for version in [14, 0x1a2a_3a4a, u32::MAX] {
         let whole = flight(version, &[]);
         assert_eq!(whole.len(), MIN_ANSWERED_DATAGRAM);
+        let least = 7 + DESTINATION.len() + SOURCE.len();
         let mut layers = Around::default();
         for length in 0..whole.len() {
             datagram(&mut layers, &whole[..length]);
         }
         assert_eq!(layers.asked, []);
+        let small = vec![WriteRefusal::DatagramTooSmall; whole.len() - least];
+        assert_eq!(layers.unanswered, small);
         datagram(&mut layers, &whole);
         match &layers.asked[..] {
             [Asked::Send(packet)] => assert!(packet.len() <= whole.len()),
@@ -189,14 +199,55 @@ fn too_small() {
     }
 }
 
+/// The same in a version that is readable: the stack drops it, and nothing is decided.
+#[test]
+fn too_small_for_a_readable_version() {
+    let sent = parameters(None);
+    let rest = [&[sent.len() as u8][..], &sent].concat();
+    let small = long_form(VERSION_1, &DESTINATION, &SOURCE, &rest);
+    let mut layers = Around::default();
+    datagram(&mut layers, &small);
+    assert_eq!((layers.asked, layers.unanswered), (vec![], vec![]));
+}
+
+/// The packet that a datagram gets, through the page's `negotiate`.
+fn packet_for(bytes: &[u8]) -> Option<Vec<u8>> {
+    let mut layers = Around::default();
+    negotiate(&mut layers, bytes);
+    match layers.asked.pop() {
+        Some(Asked::Send(packet)) => Some(packet),
+        _ => None,
+    }
+}
+
 /// What the page warns of: one packet of a datagram, handed over in the place of the datagram.
 #[test]
 fn a_packet_is_not_the_datagram() {
     let datagram = flight(14, &[]);
-    let mut packet = [0; MAX_PACKET];
-    let mut write = |bytes: &[u8]| write_version_negotiation(bytes, &TABLE, 64, &mut packet);
-    assert!(write(&datagram).is_ok());
-    assert_eq!(write(&datagram[..300]), Err(WriteRefusal::DatagramTooSmall));
+    assert!(packet_for(&datagram).is_some());
+    assert_eq!(packet_for(&datagram[..300]), None);
+}
+
+/// Of a flight of several datagrams any that is large enough gives the packet.
+#[test]
+fn any_datagram_of_a_flight() {
+    let (first, second) = (flight(14, &[1; 30]), flight(14, &[2; 1_300]));
+    assert!(packet_for(&first).is_some());
+    assert_eq!(packet_for(&first), packet_for(&second));
+    assert_eq!(packet_for(&second[..100]), None);
+}
+
+/// No datagram makes the page's `negotiate` log a fault of this side (`fault` panics here).
+#[test]
+fn no_datagram_is_a_fault() {
+    let mut layers = Around::default();
+    let negotiation = flight(0, &[]);
+    let long = vec![0xc0; 65_536];
+    for bytes in [&[][..], &[0x40], &[0x40; 1_200], &negotiation, &long] {
+        negotiate(&mut layers, bytes);
+    }
+    let numbers: Vec<u8> = layers.unanswered.iter().map(|r| r.number()).collect();
+    assert_eq!((layers.asked, numbers), (vec![], vec![12, 20, 21, 22, 11]));
 }
 
 #[test]

@@ -35,9 +35,13 @@ fn every_length_of_a_datagram_cut_short() {
 #[test]
 fn datagrams_about_the_fewest_that_are_answered() {
     let about = MIN_ANSWERED_DATAGRAM - 3..=MIN_ANSWERED_DATAGRAM + 3;
-    let lengths: Vec<usize> = (0..9).chain(about).chain([65_535, 65_536]).collect();
+    let powers = (11..16).flat_map(|k| [(1 << k) - 1, 1 << k, (1 << k) + 1_199]);
+    let others = [
+        1_252, 1_472, 1_500, 9_000, 20_000, 40_000, 60_000, 65_535, 65_536, 66_000,
+    ];
+    let lengths: Vec<usize> = (0..9).chain(about).chain(powers).chain(others).collect();
     for (first, version) in [(0x80, 0), (0x80, 12), (0xff, 12), (0x7f, 12)] {
-        let mut datagram = random::long_packet(first, version, &[], &[], &[1; 65_536]);
+        let mut datagram = random::long_packet(first, version, &[], &[], &[1; 66_000]);
         datagram[0] = first;
         for length in &lengths {
             for offered in [&[14, 13][..], &[14, 12], &[14, 14], &[]] {
