@@ -173,7 +173,7 @@ fn explain(table: &[u32], answer: Result<u32, Refusal>, information: &[u8]) -> R
 }
 
 /// A first flight: what the version layer reads of it, and zeros in the place of what is protected.
-/// It has the fewest bytes that a first flight may have; a server does not answer a smaller one.
+/// It has the fewest bytes that a server answers.
 fn first_datagram(version: u32) -> Vec<u8> {
     let mut datagram = vec![0xc0];
     datagram.extend(version.to_be_bytes());
