@@ -29,7 +29,7 @@ extern "C" {
 
 /* The release, and the interface that this header describes. */
 #define QV_RELEASE "0.1.0"
-#define QV_INTERFACE_VERSION 3u
+#define QV_INTERFACE_VERSION 4u
 
 /* On a function that answers a refusal: the compiler warns where the answer is not looked at. */
 #if defined(__GNUC__)
@@ -39,8 +39,8 @@ extern "C" {
 #endif
 
 /* Limits. */
-#define QV_MAX_TABLE 16u            /* entries of a table of versions */
-#define QV_MAX_PAIRS 64u            /* pairs of a table of compatible pairs */
+#define QV_MAX_TABLE 64u            /* entries of a table of versions */
+#define QV_MAX_PAIRS 1024u          /* pairs of a table of compatible pairs */
 #define QV_MAX_LIST 16382u          /* entries of a list to choose from */
 #define QV_MAX_ID 20u               /* bytes of an attempt's connection ID */
 #define QV_MAX_DATAGRAM 65535u      /* bytes of a datagram */
@@ -150,7 +150,7 @@ uint32_t qv_interface_version(void);
  * that a library with another interface does not link (with GCC and Clang; else compare
  * qv_interface_version() with QV_INTERFACE_VERSION at the start).
  */
-uint32_t qv_interface_3(void);
+uint32_t qv_interface_4(void);
 #if defined(__GNUC__)
 #if defined(__has_attribute)
 #if __has_attribute(retain)
@@ -160,7 +160,7 @@ uint32_t qv_interface_3(void);
 #ifndef QV_KEPT
 #define QV_KEPT __attribute__((used))
 #endif
-static uint32_t (*const qv_linked_interface)(void) QV_KEPT = qv_interface_3;
+static uint32_t (*const qv_linked_interface)(void) QV_KEPT = qv_interface_4;
 #endif
 
 /* sizeof(struct qv_attempt) as the library has it. */

@@ -11,7 +11,7 @@ use crate::Pair;
 use std::mem::{align_of, size_of};
 
 /// Entries of a table, and places of an own list.
-pub const MAX_TABLE: usize = 16;
+pub const MAX_TABLE: usize = 64;
 /// Bytes of an attempt's connection ID.
 pub const MAX_ID: usize = 20;
 
@@ -99,7 +99,7 @@ mod header {
 
     extern "C" {
         pub fn qv_interface_version() -> u32;
-        pub fn qv_interface_3() -> u32;
+        pub fn qv_interface_4() -> u32;
         pub fn qv_record_size() -> usize;
         pub fn qv_known_record() -> Record;
         pub fn qv_close_code(refusal: u32, call: u32) -> u64;
@@ -199,7 +199,7 @@ mod header {
 /// link with a library of another interface. With Rust 1.63, GNU ld drops it as unused; so build.rs
 /// looks for the name, too.
 #[used]
-static INTERFACE: unsafe extern "C" fn() -> u32 = header::qv_interface_3;
+static INTERFACE: unsafe extern "C" fn() -> u32 = header::qv_interface_4;
 
 /// `qv_interface_version`.
 #[inline]
@@ -208,12 +208,12 @@ pub fn interface_version() -> u32 {
     unsafe { header::qv_interface_version() }
 }
 
-/// `qv_interface_3`, for tests/layout.rs alone.
+/// `qv_interface_4`, for tests/layout.rs alone.
 #[allow(dead_code)]
 #[inline]
-pub fn interface_3() -> u32 {
+pub fn interface_4() -> u32 {
     // SAFETY: it takes nothing.
-    unsafe { header::qv_interface_3() }
+    unsafe { header::qv_interface_4() }
 }
 
 /// `qv_record_size`, for tests/layout.rs alone.

@@ -76,11 +76,11 @@ pub const VERSION_2: u32 = 0x6b33_43cf;
 /// The release: this crate's version, and that of the library with it.
 pub const RELEASE: &str = env!("CARGO_PKG_VERSION");
 /// The interface that this crate is written for. With a library of another one it does not link.
-pub const INTERFACE_VERSION: u32 = 3;
+pub const INTERFACE_VERSION: u32 = 4;
 /// The most entries of a table of versions.
 pub const MAX_TABLE: usize = ffi::MAX_TABLE;
 /// The most pairs of a table of compatible pairs.
-pub const MAX_PAIRS: usize = 64;
+pub const MAX_PAIRS: usize = 1_024;
 /// The most entries of a list to choose from.
 pub const MAX_LIST: usize = 16_382;
 /// The most bytes of an attempt's connection ID.

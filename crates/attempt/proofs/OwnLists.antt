@@ -8,16 +8,14 @@ use lib.Dec.{eqb}
 use lib.ListN.{length}
 use borrow.Author.Tests.{eqb-true}
 use Rattle.versions.specs.Table.{elem}
-use Rattle.attempt.specs.OwnList.{mayBeAnswered, bit, keepIf, ownList, wordFor, rowsFor, members, wordOf}
+use Rattle.versions.specs.Words.{bit}
+use Rattle.versions.proofs.Marked.{lowest-bit, rest-bits}
+use Rattle.attempt.specs.OwnList.{mayBeAnswered, keepIf, ownList, wordFor, rowsFor, members, wordOf}
 
--- the lowest bit of a word, and the rest of it
-lowest-bit : (b : Bool) (w : ℕ) → eqb ((bit b + 2 * w) % 2) 1 ≡ b
-lowest-bit true w = let e : (1 + 2 * w) % 2 ≡ 1 = omega arith in rw e
-lowest-bit false w = let e : (0 + 2 * w) % 2 ≡ 0 = omega arith in rw e
-
-pub rest-bits : (b : Bool) (w : ℕ) → (bit b + 2 * w) / 2 ≡ w
-rest-bits true w = omega arith
-rest-bits false w = omega arith
+-- what a bit says
+bit-says : (b : Bool) → eqb (bit b) 1 ≡ b
+bit-says true = refl
+bit-says false = refl
 
 pub members-word : (table : List ℕ) (pairs : List (List ℕ)) (v : ℕ) →
     members (wordFor table pairs v) table ≡ ownList table pairs v
@@ -25,7 +23,8 @@ unfolding members wordFor ownList
 members-word [] pairs v = refl
 members-word (t ∷ table) pairs v =
     let b = mayBeAnswered pairs v t in
-    rw (lowest-bit b (wordFor table pairs v), rest-bits b (wordFor table pairs v), members-word table pairs v)
+    let w = wordFor table pairs v in
+    rw (lowest-bit b w, bit-says b, rest-bits b w, members-word table pairs v)
 
 -- the entries of a word are entries of the table
 pub members-held : (word : ℕ) (table : List ℕ) (v : ℕ) → elem v (members word table) ≡ true → elem v table ≡ true

@@ -5,6 +5,7 @@ use mathlib.Core.Bool.{Bool, true, false, cond, _||_}
 use mathlib.Core.List.{List, [], _∷_}
 use lib.Dec.{eqb}
 use Rattle.versions.specs.Pairs.{paired}
+use Rattle.versions.specs.Words.{bit}
 
 -- "is the attempted version or is paired from it"
 unfoldable pub mayBeAnswered : List (List ℕ) → ℕ → ℕ → Bool
@@ -18,10 +19,6 @@ keepIf false v vs = vs
 unfoldable pub ownList : List ℕ → List (List ℕ) → ℕ → List ℕ
 ownList [] pairs attempted = []
 ownList (v ∷ table) pairs attempted = keepIf (mayBeAnswered pairs attempted v) v (ownList table pairs attempted)
-
-abbrev pub bit : Bool → ℕ
-bit true = 1
-bit false = 0
 
 -- The word for an attempted version: bit j tells whether table entry j may be answered
 unfoldable pub wordFor : List ℕ → List (List ℕ) → ℕ → ℕ

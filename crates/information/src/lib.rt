@@ -15,6 +15,7 @@ use lists::contains_in_bytes;
 use lists::put_list;
 use refusals::Refusal;
 use refusals::Written;
+use versions::table::holds;
 
 // The most bytes of Version Information: the Chosen Version and MAX_AVAILABLE Available Versions.
 pub const MAX_INFORMATION: usize = 1024;
@@ -115,22 +116,6 @@ pub fn write_information(
     }
     put_information(chosen, available, buffer);
     Written::Count(count)
-}
-
-// Whether the version is in a list of at most MAX_AVAILABLE entries. It goes over all of them, with no early exit:
-// the compiler then compares several at a time.
-fn holds(list: &[u32], version: u32) -> bool
-    ensures { λ r. ⌜ r ≡ elem version (now (list .entry)) ⌝ }
-{
-    let mut found = false;
-    let mut i = 0;
-    while i < list.len() {
-        if list[i] == version {
-            found = true;
-        }
-        i += 1;
-    }
-    found
 }
 
 // Whether the sender is a client and the Chosen Version is not among the Available Versions.

@@ -131,8 +131,8 @@ negotiated r o bits room bytes h = go (clear (packetRules r o bits room)) refl
         (lowest-applies (refuse Writing) packet (λ reply. reply ≡ answered bytes → ⊥)
         (λ n q. false≢true (ap isAnswered q)) rules e h)
 
--- Document 01: "at most 581"
-pub maxPacket-is : maxPacket ≡ 581
+-- Document 02, C-14: "the largest packet sent is 773 bytes"
+pub maxPacket-is : maxPacket ≡ 773
 maxPacket-is = refl
 
 getD-below : (bound i : ℕ) (s : List ℕ) → 0 < bound → allBelow bound s ≡ true → getD s i 0 < bound
@@ -157,7 +157,7 @@ packet-count r o bits room bytes h =
     let complete = p .0 .complete in
     rw (p .1, length-packetFor r o bits complete, length-destinationID r complete, length-sourceID r complete)
 
--- "at most 581"
+-- "the largest packet sent is 773 bytes"
 pub count-at-most : (r o : List ℕ) (bits room : ℕ) (bytes : List ℕ)
     → negotiationPacket r o bits room ≡ answered bytes → allBelow 256 r ≡ true → length bytes ≤ maxPacket
 count-at-most r o bits room bytes h e =

@@ -13,6 +13,7 @@ maxUnusedBits = 127
 abbrev pub minAnsweredDatagram : ℕ
 minAnsweredDatagram = 1200
 
--- The most bytes of a packet: "7 plus both ID lengths plus 4 per entry, at most 581"
+-- The most bytes of a packet. Document 01: "7 plus both ID lengths plus 4 per entry". Document 02, C-14: "so the largest
+-- packet sent is 773 bytes"
 abbrev pub maxPacket : ℕ
 maxPacket = 7 + (maxConnectionID + (maxConnectionID + versionBytes * maxTable))

@@ -1,18 +1,23 @@
 -- The choice after a first flight along its code: the walk over the accepted versions, and what the reader of the
 -- client's Version Information answered.
-use Prim.Native.Nat.{ℕ, _+_, _<_, _≤_}
-use mathlib.Core.Bool.{true, false, not}
+use Prim.Native.Nat.{ℕ, _+_, _/_, _%_, _<_, _≤_}
+use mathlib.Core.Bool.{Bool, true, false, not, _&&_, _||_}
 use mathlib.Core.List.{List, [], _∷_}
-use mathlib.Core.Path.{_≡_, sym, _∙_}
+use mathlib.Core.Path.{_≡_, refl, sym, _∙_}
+use native.Mathlib.Omega.{arith}
 use borrow.Author.Tests.{eq-eqb, ne-eqb}
 use lib.Dec.{eqb}
-use lib.ListN.{length, drop, getD, drop-of-length-le}
+use lib.ListN.{length, take, drop, getD, drop-of-length-le}
 use Rattle.refusals.specs.Reply.{Reply, Reply.answered, refuse}
 use Rattle.refusals.specs.Rule.{Rule._when_, judged}
 use Rattle.refusals.specs.declared.Call.the-variants.{Reading}
 use Rattle.refusals.proofs.Rules.{lowest-append}
 use Rattle.lists.specs.declared.Span.{Span}
-use Rattle.versions.proofs.Lists.{drop-next}
+use Rattle.versions.specs.Pairs.{fromOf, toOf, paired}
+use Rattle.versions.specs.Table.{elem, tableKeepsRule}
+use Rattle.versions.specs.Words.{wordBits, bit, wordWhere, wordFrom, marked}
+use Rattle.versions.proofs.Lists.{drop-next, table-entries}
+use Rattle.versions.proofs.Marked.{lowest-bit, rest-bits, word-of-all, from-none, from-pair, from-other}
 use Rattle.information.specs.Information.{chosenOf, availableOf, versionsIn, readInformation}
 use Rattle.information.specs.declared.Presence.the-variants.{Given}
 use Rattle.information.specs.declared.Sender.the-variants.{Client}
@@ -34,6 +39,52 @@ module _ (pairs : List (List ℕ)) (chosen : ℕ) (available accepted : List ℕ
   pub accepted-end : length accepted ≤ i → firstAccepted (drop i accepted) pairs chosen available ≡ negotiate
   unfolding firstAccepted
   accepted-end h = rw (drop-of-length-le accepted h)
+
+-- The word of the versions that are Chosen or paired from it, at a place of the walk: its lowest bit is that of the
+-- version there, and the rest of its bits are those of the rest
+module _ (pairs : List (List ℕ)) (chosen : ℕ) (available accepted : List ℕ) (i word : ℕ) where
+  abbrev here : ℕ
+  here = getD accepted i 0
+
+  bit-told : (b : Bool) → eqb (bit b) 1 ≡ b
+  bit-told true = refl
+  bit-told false = refl
+
+  pub use-told : i < length accepted → word ≡ wordFrom (drop i accepted) pairs chosen →
+      mayUse pairs chosen available here ≡ (elem here available && eqb (word % 2) 1)
+  unfolding mayUse wordWhere
+  use-told h e =
+      let b = eqb here chosen || paired pairs chosen here in
+      rw (e, drop-next accepted i 0 h, lowest-bit b (wordFrom (drop (i + 1) accepted) pairs chosen), bit-told b)
+
+  pub word-rest : i < length accepted → word ≡ wordFrom (drop i accepted) pairs chosen →
+      word / 2 ≡ wordFrom (drop (i + 1) accepted) pairs chosen
+  unfolding wordWhere
+  word-rest h e =
+      let b = eqb here chosen || paired pairs chosen here in
+      rw (e, drop-next accepted i 0 h, rest-bits b (wordFrom (drop (i + 1) accepted) pairs chosen))
+
+-- The walk down the pairs, marking the places: the end, and k, the place before j
+module _ (accepted : List ℕ) (kept : tableKeepsRule accepted ≡ true) (chosen : ℕ) (pairs : List (List ℕ)) where
+  pub from-end : marked (take wordBits accepted) chosen 0 ≡ wordFrom accepted (drop (length pairs) pairs) chosen
+  from-end =
+      let le : length pairs ≤ length pairs = omega arith in
+      rw (word-of-all accepted kept, drop-of-length-le pairs le) (from-none accepted (table-entries accepted kept) chosen)
+
+  module _ (k j : ℕ) (e : j ≡ k + 1) (h : k < length pairs) where
+    abbrev pair : List ℕ
+    pair = getD pairs k []
+
+    pub from-hit : fromOf pair ≡ chosen →
+        marked (take wordBits accepted) (toOf pair) (wordFrom accepted (drop j pairs) chosen) ≡ wordFrom accepted (drop k pairs) chosen
+    from-hit f =
+        rw (word-of-all accepted kept, e, drop-next pairs k [] h)
+        (from-pair accepted (table-entries accepted kept) chosen pair (drop (k + 1) pairs) f)
+
+    pub from-miss : (fromOf pair ≡ chosen → ⊥) → wordFrom accepted (drop j pairs) chosen ≡ wordFrom accepted (drop k pairs) chosen
+    from-miss f =
+        rw (e, drop-next pairs k [] h)
+        (from-other accepted (table-entries accepted kept) chosen pair (drop (k + 1) pairs) f)
 
 -- Version Information is given
 module _ (accepted : List ℕ) (pairs : List (List ℕ)) (version : ℕ) (information : List ℕ) where

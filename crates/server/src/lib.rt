@@ -1,11 +1,14 @@
 // The server's choice after a first flight (RFC 9368 sections 2.3 and 4). It answers for every input.
-ghost use mathlib.Core.Bool.{cond};
+ghost use Prim.Native.Nat.{_%_};
+ghost use mathlib.Core.Bool.{true, cond, _&&_};
 ghost use mathlib.Core.Path.{_≡_};
+ghost use lib.Dec.{eqb};
 ghost use Rattle.refusals.specs.Reply.{Reply.answered};
-ghost use Rattle.versions.specs.Table.{elem};
+ghost use Rattle.versions.specs.Table.{elem, tableKeepsRule};
+ghost use Rattle.versions.specs.Words.{wordFrom};
 ghost use Rattle.lists.specs.Wire.{entries};
 ghost use Rattle.information.specs.declared.Presence.the-variants.{Given};
-ghost use Rattle.server.specs.FirstFlight.{Act.negotiate, Act.use-version, decisionReply, mayUse, firstAccepted, withInformation, decide};
+ghost use Rattle.server.specs.FirstFlight.{Act.negotiate, Act.use-version, decisionReply, firstAccepted, withInformation, decide};
 use information::Information;
 use information::Presence;
 use information::Sender;
@@ -13,9 +16,9 @@ use information::read_information;
 use lists::contains_in_bytes;
 use refusals::Refusal;
 use versions::pairs::are_pairs;
-use versions::pairs::is_paired;
 use versions::table::contains;
 use versions::table::is_table;
+use versions::words::mark;
 
 // What the server does: it refuses, it sends a Version Negotiation packet, or it uses a version.
 pub enum Decision {
@@ -76,6 +79,7 @@ fn choose_with_information(
     version: u32,
     information: &[u8],
 ) -> Decision
+    requires { ⌜ tableKeepsRule (now accepted) ≡ true ⌝ }
     ensures { λ r. ⌜ decisionReply r ≡ withInformation (now (accepted .entry)) (now (pairs .entry)) version Given (now (information .entry)) ⌝ }
 {
     match read_information(Sender::Client, information) {
@@ -93,28 +97,46 @@ fn choose_with_information(
 
 // The first accepted version that the server may use, in the order of the server's table.
 fn first_accepted(accepted: &[u32], pairs: &[[u32; 2]], chosen: u32, available: &[u8]) -> Decision
+    requires { ⌜ tableKeepsRule (now accepted) ≡ true ⌝ }
     ensures { λ r. ⌜ decisionReply r ≡ answered (firstAccepted (now (accepted .entry)) (now (pairs .entry)) chosen (entries (now (available .entry)))) ⌝ }
 {
+    let mut word = word_from(accepted, pairs, chosen);
     let mut i = 0;
     while i < accepted.len() {
         let version = accepted[i];
-        if may_use(pairs, chosen, available, version) {
+        if may_use(word, available, version) {
             return Decision::Use(version);
         }
+        word = word / 2;
         i += 1;
     }
     Decision::Negotiate
 }
 
-// Whether a version is among the Available Versions and is the Chosen Version or is paired from it.
-fn may_use(pairs: &[[u32; 2]], chosen: u32, available: &[u8], version: u32) -> bool
-    ensures { λ r. ⌜ r ≡ mayUse (now (pairs .entry)) chosen (entries (now (available .entry))) version ⌝ }
+// The accepted versions that are the Chosen Version or are paired from it, as a word: bit j for entry j. It goes over the
+// pairs once.
+fn word_from(accepted: &[u32], pairs: &[[u32; 2]], chosen: u32) -> u64
+    requires { ⌜ tableKeepsRule (now accepted) ≡ true ⌝ }
+    ensures { λ r. ⌜ r ≡ wordFrom (now (accepted .entry)) (now (pairs .entry)) chosen ⌝ }
 {
-    if !contains_in_bytes(available, version) {
+    let mut word = mark(accepted, chosen, 0);
+    let mut k = pairs.len();
+    while 0 < k {
+        k -= 1;
+        let pair = pairs[k];
+        if pair[0] == chosen {
+            word = mark(accepted, pair[1], word);
+        }
+    }
+    word
+}
+
+// Whether the version's bit, the lowest of the word, is set, and the version is among the Available Versions.
+fn may_use(word: u64, available: &[u8], version: u32) -> bool
+    ensures { λ r. ⌜ r ≡ (elem version (entries (now (available .entry))) && eqb (word % 2) 1) ⌝ }
+{
+    if word % 2 != 1 {
         return false;
     }
-    if version == chosen {
-        return true;
-    }
-    is_paired(pairs, chosen, version)
+    contains_in_bytes(available, version)
 }

@@ -1,4 +1,5 @@
 pub mod Lists
+pub mod Marked
 pub mod Masks
 pub mod Repeated
 pub mod Reserved

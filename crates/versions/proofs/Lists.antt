@@ -1,19 +1,20 @@
 -- A walk over a list, entry by entry: at each place i the rest `drop i xs` answers for the whole. Each definition
 -- of specs/ over a list is read here at such a rest: what its first entry decides, what it leaves, and the end.
-use Prim.Native.Nat.{ℕ, _+_, _-_, _<_, _≤_}
-use mathlib.Core.Bool.{true, false}
+use Prim.Native.Nat.{ℕ, suc, _+_, _-_, _<_, _≤_}
+use mathlib.Core.Bool.{Bool, true, false, cond, _||_}
 use mathlib.Core.List.{List, [], _∷_}
-use mathlib.Core.Path.{_≡_, ap}
+use mathlib.Core.Path.{_≡_, refl, ap}
 use native.Mathlib.Nat.{le-refl}
 use native.Mathlib.Numerals.{add-one}
+use native.Mathlib.Omega.{arith}
 use lib.ListN.{length, take, drop, getD, length-drop, drop-of-length-le}
 use lib.Seq.{drop-cons, take-all}
 use borrow.Author.Tests.{eq-eqb, ne-eqb, leb-true}
-use lib.Dec.{leb}
+use lib.Dec.{eqb, leb}
 use Rattle.refusals.proofs.Rules.{both-true}
 use Rattle.versions.specs.Limits.{maxTable}
 use Rattle.versions.specs.Pairs.{fromOf, toOf, pairKeepsRule, eachPairKeepsRule, paired}
-use Rattle.versions.specs.Table.{elem, entriesKeepRule, tableKeepsRule}
+use Rattle.versions.specs.Table.{elem, placeOf, entriesKeepRule, tableKeepsRule}
 use Rattle.versions.specs.Version.{usable}
 
 -- The rest at a place is the entry there and the rest after it
@@ -41,6 +42,20 @@ module _ (v : ℕ) (xs : List ℕ) (i : ℕ) where
   pub elem-part : elem v (take (length xs - i) (drop i xs)) ≡ elem v (drop i xs)
   elem-part = ap (elem v) (part-rest xs i)
 
+-- `placeOf`, version v: the place in the whole is i more than that in the rest
+module _ (v : ℕ) (xs : List ℕ) (i : ℕ) where
+  pub place-here : i < length xs → getD xs i 0 ≡ v → i + placeOf v (drop i xs) ≡ i
+  unfolding placeOf
+  place-here h e = rw (drop-next xs i 0 h, eq-eqb _ _ e) (omega arith)
+
+  pub place-next : i < length xs → (getD xs i 0 ≡ v → ⊥) → i + placeOf v (drop i xs) ≡ i + 1 + placeOf v (drop (i + 1) xs)
+  unfolding placeOf
+  place-next h e = rw (drop-next xs i 0 h, ne-eqb _ _ e) (omega arith)
+
+  pub place-end : length xs ≤ i → i + placeOf v (drop i xs) ≡ i
+  unfolding placeOf
+  place-end h = rw (drop-of-length-le xs h) (omega arith)
+
 -- `entriesKeepRule`
 module _ (xs : List ℕ) (i : ℕ) where
   pub table-unusable : i < length xs → usable (getD xs i 0) ≡ false → entriesKeepRule (drop i xs) ≡ false
@@ -59,13 +74,29 @@ module _ (xs : List ℕ) (i : ℕ) where
   unfolding entriesKeepRule
   table-end h = rw (drop-of-length-le xs h)
 
--- "A table of versions has 1 to 16 entries"
+-- "A table of versions has 1 to 64 entries"
 pub table-counts : (t : List ℕ) → tableKeepsRule t ≡ true → (1 ≤ length t) × (length t ≤ maxTable)
 unfolding tableKeepsRule
 table-counts t h =
     let a = both-true (leb 1 (length t)) _ h in
     let b = both-true (leb (length t) maxTable) _ (a .1) in
     (leb-true _ _ (a .0), leb-true _ _ (b .0))
+
+-- "none 0, none reserved, none twice"
+pub table-entries : (t : List ℕ) → tableKeepsRule t ≡ true → entriesKeepRule t ≡ true
+unfolding tableKeepsRule
+table-entries t h = both-true (leb (length t) maxTable) _ (both-true (leb 1 (length t)) _ h .1) .1
+
+-- A version without a place in the list does not occur in it
+pub place-absent : (v : ℕ) (xs : List ℕ) → length xs ≤ placeOf v xs → elem v xs ≡ false
+unfolding placeOf elem
+place-absent v [] h = refl
+place-absent v (x ∷ xs) h = go (eqb x v) h (place-absent v xs)
+  where
+    go : (b : Bool) → suc (length xs) ≤ cond b 0 (suc (placeOf v xs)) → (length xs ≤ placeOf v xs → elem v xs ≡ false) →
+        (b || elem v xs) ≡ false
+    go true h ih = absurd (omega arith)
+    go false h ih = ih (omega arith)
 
 -- `eachPairKeepsRule`
 module _ (ps : List (List ℕ)) (i : ℕ) where

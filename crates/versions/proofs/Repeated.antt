@@ -14,7 +14,7 @@ use Rattle.versions.specs.Pairs.{fromOf, toOf, pairKeepsRule, eachPairKe
 use Rattle.versions.specs.Version.{usable}
 
 -- Tests may change places
-or-swap : (p q r : Bool) → (p || (q || r)) ≡ (q || (p || r))
+pub or-swap : (p q r : Bool) → (p || (q || r)) ≡ (q || (p || r))
 or-swap true true r = refl
 or-swap true false r = refl
 or-swap false q r = refl

@@ -1,6 +1,6 @@
 -- Tables and lists of versions.
-use Prim.Native.Nat.{ℕ}
-use mathlib.Core.Bool.{Bool, true, false, not, _&&_, _||_}
+use Prim.Native.Nat.{ℕ, suc}
+use mathlib.Core.Bool.{Bool, true, false, cond, not, _&&_, _||_}
 use mathlib.Core.List.{List, [], _∷_}
 use lib.Dec.{eqb, leb}
 use lib.ListN.{length}
@@ -12,12 +12,17 @@ unfoldable pub elem : ℕ → List ℕ → Bool
 elem v [] = false
 elem v (x ∷ xs) = eqb x v || elem v xs
 
+-- The first place of v in the list, counted from 0; the list's length where it has none
+unfoldable pub placeOf : ℕ → List ℕ → ℕ
+placeOf v [] = 0
+placeOf v (x ∷ xs) = cond (eqb x v) 0 (suc (placeOf v xs))
+
 -- "none 0, none reserved, none twice"
 unfoldable pub entriesKeepRule : List ℕ → Bool
 entriesKeepRule [] = true
 entriesKeepRule (v ∷ vs) = (usable v && not (elem v vs)) && entriesKeepRule vs
 
--- Document 01: "A table of versions has 1 to 16 entries, none 0, none reserved, none twice; its order is
--- preference, best first"
+-- Document 01, with the number of document 02 (C-14): "A table of versions has 1 to 64 entries, none 0, none reserved,
+-- none twice; its order is preference, best first"
 unfoldable pub tableKeepsRule : List ℕ → Bool
 tableKeepsRule table = leb 1 (length table) && (leb (length table) maxTable && entriesKeepRule table)

@@ -1,6 +1,6 @@
 // Reserved numbers, tables and lists of versions.
 ghost use mathlib.Core.Path.{_≡_};
-ghost use Rattle.versions.specs.Table.{elem, tableKeepsRule};
+ghost use Rattle.versions.specs.Table.{elem, placeOf, tableKeepsRule};
 ghost use Rattle.versions.specs.Version.{reserved, usable};
 use crate::MAX_TABLE;
 
@@ -40,6 +40,36 @@ pub fn contains(list: &[u32], version: u32) -> bool
     false
 }
 
+// Whether the version occurs in the list, which is short: all of it is gone over, with no early exit, so that the
+// compiler compares several entries at a time.
+pub fn holds(list: &[u32], version: u32) -> bool
+    ensures { λ r. ⌜ r ≡ elem version (now (list .entry)) ⌝ }
+{
+    let mut found = false;
+    let mut i = 0;
+    while i < list.len() {
+        if list[i] == version {
+            found = true;
+        }
+        i += 1;
+    }
+    found
+}
+
+// The first place of the version in the list, counted from 0; the list's length where it has none.
+pub fn place_of(list: &[u32], version: u32) -> usize
+    ensures { λ r. ⌜ r ≡ placeOf version (now (list .entry)) ⌝ }
+{
+    let mut i = 0;
+    while i < list.len() {
+        if list[i] == version {
+            return i;
+        }
+        i += 1;
+    }
+    i
+}
+
 // Whether a table of versions keeps its rule: 1 to MAX_TABLE entries, none 0, none reserved, none twice.
 pub fn is_table(table: &[u32]) -> bool
     ensures { λ r. ⌜ r ≡ tableKeepsRule (now (table .entry)) ⌝ }
@@ -58,7 +88,7 @@ pub fn is_table(table: &[u32]) -> bool
         if !is_usable(version) {
             return false;
         }
-        if contains(&table[i..], version) {
+        if holds(&table[i..], version) {
             return false;
         }
     }

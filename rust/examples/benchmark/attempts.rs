@@ -112,26 +112,38 @@ impl Both {
     }
 }
 
-/// A full table, and as many pairs as there may be: each entry to the ones that follow it.
-fn full() -> (Vec<u32>, Vec<Pair>) {
-    let versions: Vec<u32> = (100..).take(MAX_TABLE).collect();
-    let each = (MAX_PAIRS / MAX_TABLE).max(1);
+/// A table, and as many pairs, each entry to as many of the ones that follow it.
+fn table_and_pairs(entries: usize, count: usize) -> (Vec<u32>, Vec<Pair>) {
+    let versions: Vec<u32> = (100..).take(entries).collect();
+    let each = (count / entries).max(1);
     let pair = |k| Pair {
         from: versions[k / each],
-        to: versions[(k / each + 1 + k % each) % MAX_TABLE],
+        to: versions[(k / each + 1 + k % each) % entries],
     };
-    let pairs = (0..MAX_PAIRS).map(pair).collect();
+    let pairs = (0..count).map(pair).collect();
     (versions, pairs)
 }
 
+/// A full table, and as many pairs as there may be.
+fn full() -> (Vec<u32>, Vec<Pair>) {
+    table_and_pairs(MAX_TABLE, MAX_PAIRS)
+}
+
 fn starts(table: &mut Table) {
-    let (versions, pairs) = full();
     let (destination, source) = (&[7; 8][..], &[8; 8][..]);
+    // The second is the longest start of the base, the third the longest of now.
+    let (base, full) = (table_and_pairs(16, 64), full());
     let small = (&[14, 12, 10][..], &[][..], 12);
-    for (versions, pairs, original) in [small, (&versions, &pairs, versions[MAX_TABLE / 2 - 1])] {
+    let middle = (&base.0[..], &base.1[..], base.0[7]);
+    let large = (&full.0[..], &full.1[..], full.0[MAX_TABLE / 2 - 1]);
+    for (versions, pairs, original) in [small, middle, large] {
         let both = Both::start(versions, pairs, original, destination, source);
         table.row(
-            &format!("start, {} entries, {} pairs", versions.len(), pairs.len()),
+            &format!(
+                "start, {} entries, {} pairs",
+                versions.len(),
+                grouped(pairs.len())
+            ),
             calls!(Attempt::start(
                 opaque(versions),
                 opaque(pairs),

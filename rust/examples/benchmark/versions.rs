@@ -21,13 +21,15 @@ fn reserved(table: &mut Table) {
     }
 }
 
-/// A full table, which keeps its rule.
+/// Tables that keep their rule: a full one of the base, and a full one of now.
 fn tables(table: &mut Table) {
-    let versions = &(100..).take(MAX_TABLE).collect::<Vec<u32>>()[..];
-    assert!(is_table(versions) && plain::is_table(versions));
-    table.row(
-        &format!("table's rule, {} entries", MAX_TABLE),
-        calls!(is_table(opaque(versions))),
-        calls!(plain::is_table(opaque(versions))),
-    );
+    for count in [16, MAX_TABLE] {
+        let versions = &(100..).take(count).collect::<Vec<u32>>()[..];
+        assert!(is_table(versions) && plain::is_table(versions));
+        table.row(
+            &format!("table's rule, {} entries", count),
+            calls!(is_table(opaque(versions))),
+            calls!(plain::is_table(opaque(versions))),
+        );
+    }
 }

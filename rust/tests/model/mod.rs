@@ -24,9 +24,9 @@ pub const MAX_WIRE_ID: usize = 255;
 /// "at most 16,382 of them"
 pub const MAX_LIST: usize = 16_382;
 /// "A table of versions has 1 to 16 entries"
-pub const MAX_TABLE: usize = 16;
+pub const MAX_TABLE: usize = 64;
 /// "A table of compatible pairs (from, to) has 0 to 64 pairs"
-pub const MAX_PAIRS: usize = 64;
+pub const MAX_PAIRS: usize = 1_024;
 /// "0 to 255 Available Versions of 4 bytes"
 pub const MAX_AVAILABLE: usize = 255;
 /// "4 to 1,024 bytes"

@@ -1,11 +1,12 @@
 -- `open`: each array of the record is its list in places.
 use borrow.Author.Needs.{needs}
+use Rattle.versions.proofs.Lists.{table-counts}
 use Rattle.attempt.specs.Start.{opened}
 use Rattle.client_start.proofs.open.Statement.{statement}
 use Rattle.client_start.proofs.open.Tie as tie
 
 padded-table-requires : tie.Need-padded-table-requires
-padded-table-requires c κs = search needs
+padded-table-requires c κs = let entry = c .before .before .before in table-counts (entry .args .table .now) (entry .pre .0) .1
 
 rows-for-requires : tie.Need-rows-for-requires
 rows-for-requires c κs = search needs

@@ -14,7 +14,6 @@ use Rattle.attempt.specs.Events.{Reachable, run}
 use Rattle.attempt.specs.Limits.{maxID}
 use Rattle.attempt.specs.Start.{Input, inputOf, isAccepted, Start, shownStart, startOf, refusedStart, openedStart}
 use Rattle.attempt.specs.declared.Started.{Started}
-use Rattle.versions.proofs.Lists.{table-counts}
 use Rattle.client_start.proofs.start.Statement.{statement}
 use Rattle.client_start.proofs.start.Tie as tie
 
@@ -137,7 +136,7 @@ returns-5 c =
 open-requires : tie.Need-open-requires
 open-requires c κs =
     let kept = c .before .before .before .before .before .before in
-    (table-counts _ (table-kept kept) .1, omega arith, omega arith)
+    (table-kept kept, omega arith, omega arith)
 
 returns-6 : tie.Need-returns-6
 returns-6 c =

@@ -97,7 +97,7 @@ enum-told-2 : tie.Need-enum-told-2
 enum-told-2 c = search needs
 
 choose-with-information-requires : tie.Need-choose-with-information-requires
-choose-with-information-requires c κs = search needs
+choose-with-information-requires c κs = accepted-kept (c .before .before .before .before .before .before)
 
 returns-5 : tie.Need-returns-5
 returns-5 c = rw (read-on (c .before .before .before), c .before .enum-told .given .1) (c .choose-without-information .ensures)

@@ -75,13 +75,15 @@ impl PlainAttempt {
         attempt.table[..table.len()].copy_from_slice(table);
         attempt.destination[..destination.len()].copy_from_slice(destination);
         attempt.source[..source.len()].copy_from_slice(source);
-        for (place, from) in table.iter().enumerate() {
-            attempt.rows[place] |= 1 << place;
-            for pair in pairs {
-                if pair.from == *from {
-                    if let Some(to) = table.iter().position(|v| *v == pair.to) {
-                        attempt.rows[place] |= 1 << to;
-                    }
+        for place in 0..table.len() {
+            attempt.rows[place] = 1 << place;
+        }
+        // Pair by pair, as the library does.
+        let place = |version| table.iter().position(|v| *v == version);
+        for pair in pairs {
+            if let Some(from) = place(pair.from) {
+                if let Some(to) = place(pair.to) {
+                    attempt.rows[from] |= 1 << to;
                 }
             }
         }

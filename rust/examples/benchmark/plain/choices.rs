@@ -1,7 +1,8 @@
 //! Tables, pairs and the choice from a list.
 
 use super::lists;
-use quic_version::{Pair, MAX_LIST, MAX_PAIRS, MAX_TABLE};
+use super::wire::read_information;
+use quic_version::{Decision, Pair, MAX_LIST, MAX_PAIRS, MAX_TABLE};
 
 pub fn is_reserved(version: u32) -> bool {
     version & 0x0f0f_0f0f == 0x0a0a_0a0a
@@ -63,4 +64,47 @@ pub fn choose_from_bytes(table: &[u32], bytes: &[u8]) -> Result<u32, u8> {
         }
     }
     Err(42)
+}
+
+#[inline(never)]
+pub fn server_choice(
+    readable: &[u32],
+    accepted: &[u32],
+    pairs: &[Pair],
+    version: u32,
+    information: Option<&[u8]>,
+) -> Result<Decision, u8> {
+    if !is_table(readable) || !is_table(accepted) {
+        return Err(41);
+    }
+    if !are_pairs(pairs) {
+        return Err(43);
+    }
+    if !readable.contains(&version) {
+        return Ok(Decision::Negotiate);
+    }
+    let (chosen, available) = match information {
+        Some(bytes) => read_information(true, bytes)?,
+        None if accepted.contains(&version) => return Ok(Decision::Use(version)),
+        None => return Ok(Decision::Negotiate),
+    };
+    if chosen != version {
+        return Err(51);
+    }
+    // Over the pairs once, as the library does.
+    let place = |version| accepted.iter().position(|v| *v == version);
+    let mut usable: u64 = place(chosen).map_or(0, |place| 1 << place);
+    for pair in pairs {
+        if pair.from == chosen {
+            if let Some(place) = place(pair.to) {
+                usable |= 1 << place;
+            }
+        }
+    }
+    for (place, version) in accepted.iter().enumerate() {
+        if usable >> place & 1 == 1 && lists(available, *version) {
+            return Ok(Decision::Use(*version));
+        }
+    }
+    Ok(Decision::Negotiate)
 }

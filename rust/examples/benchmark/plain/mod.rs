@@ -7,7 +7,7 @@ mod versions;
 mod wire;
 
 pub use attempts::PlainAttempt;
-pub use choices::{choose, choose_from_bytes};
+pub use choices::{choose, choose_from_bytes, server_choice};
 pub use versions::{is_reserved, is_table};
 pub use wire::{read_header, read_information, write_information, write_version_negotiation};
 

@@ -49,30 +49,30 @@ returns-3 c =
     table-unusable _ _ (c .before .before .before .loop-test .taken)
     (sym (c .before .is-usable .ensures) ∙ not-true _ (c .if3 .taken)))
 
-mul-contains : tie.Need-mul-contains Inv-loop μ-loop
-mul-contains c = search needs
+mul-holds : tie.Need-mul-holds Inv-loop μ-loop
+mul-holds c = search needs
 
-sub-contains : tie.Need-sub-contains Inv-loop μ-loop
-sub-contains c = omega arith
+sub-holds : tie.Need-sub-holds Inv-loop μ-loop
+sub-holds c = omega arith
 
-part-contains-start : tie.Need-part-contains-start Inv-loop μ-loop
-part-contains-start c = search needs
+part-holds-start : tie.Need-part-holds-start Inv-loop μ-loop
+part-holds-start c = search needs
 
-part-contains-end : tie.Need-part-contains-end Inv-loop μ-loop
-part-contains-end c = search needs
+part-holds-end : tie.Need-part-holds-end Inv-loop μ-loop
+part-holds-end c = search needs
 
-contains-requires : tie.Need-contains-requires Inv-loop μ-loop
-contains-requires c κs = search needs
+holds-requires : tie.Need-holds-requires Inv-loop μ-loop
+holds-requires c κs = search needs
 
--- Whether the entry at the loop's place occurs after it, as `contains` answers
+-- Whether the entry at the loop's place occurs after it, as `holds` answers
 elem-later :
-    (c : tie.After-contains Inv-loop μ-loop) →
+    (c : tie.After-holds Inv-loop μ-loop) →
     let at = c .before .before .before .before .before .before in
     let table = at .before .before .before .before .args .table .now in
-    elem (getD table (at .loop .i) 0) (drop (at .loop .i + 1) table) ≡ c .contains .result
+    elem (getD table (at .loop .i) 0) (drop (at .loop .i + 1) table) ≡ c .holds .result
 elem-later c =
     let at = c .before .before .before .before .before .before in
-    sym (c .contains .ensures ∙ elem-part _ (at .before .before .before .before .args .table .now) (at .loop .i + 1))
+    sym (c .holds .ensures ∙ elem-part _ (at .before .before .before .before .args .table .now) (at .loop .i + 1))
 
 returns-4 : tie.Need-returns-4 Inv-loop μ-loop
 returns-4 c =
@@ -111,11 +111,11 @@ is-table-spec =
     add-i
     is-usable-requires
     returns-3
-    mul-contains
-    sub-contains
-    part-contains-start
-    part-contains-end
-    contains-requires
+    mul-holds
+    sub-holds
+    part-holds-start
+    part-holds-end
+    holds-requires
     returns-4
     loop-less
     loop-again

@@ -7,10 +7,10 @@ use mathlib.Core.Path.{_≡_, refl, sym, ap, _∙_}
 use native.Mathlib.Omega.{arith}
 use denote.Ref.{now}
 use lib.ListN.{length, drop}
 use Rattle.versions.specs.Table.{elem}
 use Rattle.versions.proofs.Lists.{elem-here, elem-next, elem-end}
-use Rattle.information.proofs.holds.Statement.{statement}
-use Rattle.information.proofs.holds.Tie as tie
+use Rattle.versions.proofs.table.holds.Statement.{statement}
+use Rattle.versions.proofs.table.holds.Tie as tie
 
 abbrev Inv-loop : tie.InvT-loop
 Inv-loop list version found₀ i₀ found i = (i ≤ length list) × (elem version list ≡ (found || elem version (drop i list)))

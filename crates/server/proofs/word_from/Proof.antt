@@ -1,30 +1,30 @@
--- `word_for`: from the pairs' end on, the word so far is that of the rest of the pairs.
-use Prim.Native.Nat.{_-_, _≤_}
-use mathlib.Core.List.{[]}
-use mathlib.Core.Path.{_≡_, ap, _∙_}
+-- `word_from`: from the pairs' end on, the word so far is that of the rest of the pairs.
+use Prim.Native.Nat.{ℕ, _-_, _≤_}
+use mathlib.Core.List.{List, []}
+use mathlib.Core.Path.{_≡_, sym, ap, _∙_}
 use native.Mathlib.Omega.{arith}
-use lib.ListN.{length, drop, getD}
+use lib.ListN.{length, take, drop, getD}
 use borrow.Author.Needs.{needs}
 use Rattle.versions.specs.Pairs.{toOf}
-use Rattle.attempt.specs.OwnList.{wordFor}
-use Rattle.client_start.specs.Words.{marked}
-use Rattle.client_start.proofs.Marks.{word-hit, word-miss, word-end}
-use Rattle.client_start.proofs.words.word_for.Statement.{statement}
-use Rattle.client_start.proofs.words.word_for.Tie as tie
+use Rattle.versions.specs.Words.{marked, wordFrom}
+use Rattle.server.proofs.Flights.{from-end, from-hit, from-miss}
+use Rattle.server.proofs.word_from.Statement.{statement}
+use Rattle.server.proofs.word_from.Tie as tie
 
 abbrev Inv-loop : tie.InvT-loop
-Inv-loop table pairs attempted word₀ k₀ word k = (k ≤ length pairs) × (word ≡ wordFor table (drop k pairs) attempted)
+Inv-loop accepted pairs chosen word₀ k₀ word k = (k ≤ length pairs) × (word ≡ wordFrom accepted (drop k pairs) chosen)
 
 abbrev μ-loop : tie.MeasureT-loop
-μ-loop table pairs attempted word₀ k₀ word k = k
+μ-loop accepted pairs chosen word₀ k₀ word k = k
 
 mark-requires : tie.Need-mark-requires Inv-loop μ-loop
 mark-requires c κs = search needs
 
 loop-holds : tie.Need-loop-holds Inv-loop μ-loop
 loop-holds c =
-    let args = c .before .before .args in
-    (omega arith, c .mark .ensures ∙ word-end (args .table .now) (args .pairs .now) (args .attempted))
+    let entry = c .before .before in
+    let args = entry .args in
+    (omega arith, c .mark .ensures ∙ from-end (args .accepted .now) (entry .pre) (args .chosen) (args .pairs .now))
 
 sub-k : tie.Need-sub-k Inv-loop μ-loop
 sub-k c = omega arith
@@ -50,13 +50,14 @@ loop-less c = omega arith
 loop-again : tie.Need-loop-again Inv-loop μ-loop
 loop-again c =
     let at = c .before .before .before .before in
-    let args = at .before .before .before .args in
-    let pair = getD (args .pairs .now) (at .loop .k - 1) [] in (
+    let entry = at .before .before .before in
+    let args = entry .args in
+    let k = at .loop .k in (
       omega arith,
       c .mark2 .ensures ∙
-          ap (marked (args .table .now) (toOf pair)) (at .loop .inv .1) ∙
-          word-hit (args .table .now) (args .pairs .now) (args .attempted) (at .loop .k - 1) (at .loop .k) (omega arith) (omega arith)
-          (c .before .if1 .taken),
+          rw (at .loop .inv .1)
+          (from-hit (args .accepted .now) (entry .pre) (args .chosen) (args .pairs .now) (k - 1) k (omega arith) (omega arith)
+          (c .before .if1 .taken)),
     )
 
 loop-less-2 : tie.Need-loop-less-2 Inv-loop μ-loop
@@ -65,10 +66,12 @@ loop-less-2 c = omega arith
 loop-again-2 : tie.Need-loop-again-2 Inv-loop μ-loop
 loop-again-2 c =
     let at = c .before .before .before in
-    let args = at .before .before .before .args in (
+    let entry = at .before .before .before in
+    let args = entry .args in
+    let k = at .loop .k in (
       omega arith,
       at .loop .inv .1 ∙
-          word-miss (args .table .now) (args .pairs .now) (args .attempted) (at .loop .k - 1) (at .loop .k) (omega arith) (omega arith)
+          from-miss (args .accepted .now) (entry .pre) (args .chosen) (args .pairs .now) (k - 1) k (omega arith) (omega arith)
           (c .if1 .left),
     )
 
@@ -78,8 +81,8 @@ returns c =
     let done : at .loop .k ≡ 0 = omega arith in
     at .loop .inv .1 ∙ rw done
 
-pub word-for-spec : {M : Type 1} → statement M
-word-for-spec =
+pub word-from-spec : {M : Type 1} → statement M
+word-from-spec =
     tie.close
     (tie.spec
     Inv-loop
