@@ -188,7 +188,7 @@ mod header {
             bytes_len: usize,
         ) -> u32;
         pub fn qv_own_list(
-            attempt: Record,
+            attempt: *const Record,
             versions: *mut [u32; MAX_TABLE],
             count: *mut usize,
         ) -> u32;
@@ -444,5 +444,5 @@ pub fn event(attempt: &mut Record, kind: u32, value: u32, bytes: &[u8]) -> u32 {
 #[inline]
 pub fn own_list(attempt: &Record, versions: &mut [u32; MAX_TABLE], count: &mut usize) -> u32 {
     // SAFETY: references do not overlap, any record is allowed.
-    unsafe { header::qv_own_list(*attempt, versions, count) }
+    unsafe { header::qv_own_list(attempt, versions, count) }
 }

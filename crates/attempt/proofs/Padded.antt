@@ -6,23 +6,28 @@ use native.Mathlib.Numerals.{add-one}
 use native.Mathlib.Omega.{arith}
 use lib.ListN.{length, take, drop, getD, set, replicate, length-append, length-replicate}
 use lib.Seq.{drop-cons, set-append-seam, append-snoc, take-suc, take-all, length-take-le}
-use Rattle.attempt.specs.Attempt.{padded}
+use Rattle.attempt.specs.Attempt.{over, padded}
 
 pub padded-none : (n : ℕ) → replicate n 0 ≡ padded n []
 unfolding padded
 padded-none n = refl
 
--- One entry more, at the place after the last
+-- One entry more, at the place after the last: over what was found, and over zeros
+pub push-over : (found xs : List ℕ) (i x : ℕ) → length xs ≡ i → i < length found →
+    set (over xs found) i x ≡ over (xs ++ (x ∷ [])) found
+push-over found xs i x e h =
+    let room : length xs < length found = omega arith in
+    let more : length (xs ++ (x ∷ [])) ≡ suc (length xs) = length-append xs (x ∷ []) ∙ add-one (length xs) in
+    rw (← e, drop-cons found (length xs) 0 room, more)
+    (set-append-seam xs (getD found (length xs) 0) (drop (suc (length xs)) found) x ∙
+    sym (append-snoc xs x (drop (suc (length xs)) found)))
+
 pub push : (n : ℕ) (xs : List ℕ) (i x : ℕ) → length xs ≡ i → i < n → set (padded n xs) i x ≡ padded n (xs ++ (x ∷ []))
 unfolding padded
 push n xs i x e h =
     let zeros : List ℕ = replicate n 0 in
     let all : length zeros ≡ n = length-replicate n 0 in
-    let room : length xs < length zeros = omega arith in
-    let more : length (xs ++ (x ∷ [])) ≡ suc (length xs) = length-append xs (x ∷ []) ∙ add-one (length xs) in
-    rw (← e, drop-cons zeros (length xs) 0 room, more)
-    (set-append-seam xs (getD zeros (length xs) 0) (drop (suc (length xs)) zeros) x ∙
-    sym (append-snoc xs x (drop (suc (length xs)) zeros)))
+    push-over zeros xs i x e (omega arith)
 
 -- The walk over a list: the next entry, and the end
 pub push-next : (n : ℕ) (xs : List ℕ) (i : ℕ) → length xs ≤ n → i < length xs →

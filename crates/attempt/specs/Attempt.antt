@@ -10,6 +10,10 @@ use Rattle.attempt.specs.declared.End.{End}
 use Rattle.attempt.specs.declared.End.the-variants.{Open, Completed, Closed}
 use Rattle.attempt.specs.declared.OwnList.{OwnList}
 
+-- A list put over the front of what was found; the places past it keep their values
+abbrev pub over : List ℕ → List ℕ → List ℕ
+over xs found = xs ++ drop (length xs) found
+
 -- A list in an array of n places: "places past a count are 0"
 unfoldable pub padded : ℕ → List ℕ → List ℕ
 padded n xs = xs ++ drop (length xs) (replicate n 0)

@@ -1,21 +1,17 @@
 // The attempt over its record without enums: the start, the events, the own list; the record's layout.
-ghost use Prim.Native.Nat.{_≤_};
-ghost use mathlib.Core.List.{_++_};
 ghost use mathlib.Core.Path.{_≡_};
-ghost use lib.ListN.{length, take, drop};
+ghost use lib.ListN.{length};
 ghost use Rattle.refusals.specs.Written.{leaves};
-ghost use Rattle.versions.specs.Limits.{maxTable};
 ghost use Rattle.attempt.specs.Start.{inputOf};
 ghost use Rattle.c_record.specs.Records.{stepRecord, startRecord, shownLeft};
 ghost use Rattle.c_interface.specs.Layout.{knownRecord, recordSize};
 ghost use Rattle.c_interface.specs.Numbers.{returned, leaving, ownAnswer};
 use crate::RECORD_SIZE;
 use attempt::MAX_ID;
-use attempt::OwnList;
 use c_record::NOT_VALID;
 use c_record::Record;
 use c_record::RecordAndRefusal;
-use c_record::attempts::own_of;
+use c_record::attempts::put_own;
 use c_record::attempts::start_record;
 use c_record::events::step_record;
 use versions::MAX_TABLE;
@@ -55,40 +51,29 @@ pub extern "C" fn qv_start(
 // their values. Refusal: 255 for a record that could not be an attempt's, which leaves both as found.
 #[no_mangle]
 pub extern "C" fn qv_own_list(
-    held: Record,
+    held: &Record,
     versions: &mut [u32; MAX_TABLE],
     count: &mut usize,
 ) -> u32
+    ensures answer { λ r. ⌜ r ≡ returned (ownAnswer (now (held .entry))) ⌝ }
+    ensures list { λ _. ⌜ now (versions .exit) ≡ leaves (ownAnswer (now (held .entry))) (now (versions .entry)) ⌝ }
+    ensures counted { λ _. ⌜ now (count .exit) ≡ leaving length (ownAnswer (now (held .entry))) (now (count .entry)) ⌝ }
+{
+    put_own_list(*held, versions, count)
+}
+
+// The same of a record by value.
+fn put_own_list(held: Record, versions: &mut [u32; MAX_TABLE], count: &mut usize) -> u32
     ensures answer { λ r. ⌜ r ≡ returned (ownAnswer held) ⌝ }
     ensures list { λ _. ⌜ now (versions .exit) ≡ leaves (ownAnswer held) (now (versions .entry)) ⌝ }
     ensures counted { λ _. ⌜ now (count .exit) ≡ leaving length (ownAnswer held) (now (count .entry)) ⌝ }
 {
-    let own = own_of(held);
+    let own = put_own(held, versions);
     if !own.known {
         return NOT_VALID;
     }
-    let list = own.list;
-    let found = *versions;
-    let left = put_over(list, found);
-    *versions = left;
-    *count = list.count;
+    *count = own.count;
     0
-}
-
-// An array with a list at its front; the places past it keep their values.
-fn put_over(list: OwnList, found: [u32; MAX_TABLE]) -> [u32; MAX_TABLE]
-    requires { ⌜ list .count ≤ maxTable ⌝ }
-    ensures { λ r. ⌜ r ≡ take (list .count) (list .versions) ++ drop (list .count) found ⌝ }
-{
-    let versions = list.versions;
-    let count = list.count;
-    let mut left = found;
-    let mut i = 0;
-    while i < count {
-        left[i] = versions[i];
-        i += 1;
-    }
-    left
 }
 
 // A record with known values in every field, to compare the layout with.

@@ -1,4 +1,5 @@
 pub mod Applied
 pub mod Demand3
 pub mod Lossless
+pub mod OwnRecords
 pub mod Records

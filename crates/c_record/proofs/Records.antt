@@ -7,14 +7,11 @@ use mathlib.Core.Option.{Option.none, Option.some}
 use mathlib.Core.Path.{_≡_, refl, sym, ap, _∙_}
 use native.Mathlib.Omega.{arith}
 use lib.Dec.{eqb, leb}
-use lib.ListN.{length, length-take}
 use borrow.Author.Tests.{leb-true, ne-eqb, eqb-true, eqb-false}
 use Rattle.refusals.proofs.Rules.{both-true, lowest-applies}
-use Rattle.versions.specs.Limits.{maxTable}
 use Rattle.versions.specs.Table.{elem}
 use Rattle.attempt.specs.Attempt.{tableOf, ownOf}
 use Rattle.attempt.specs.Limits.{notARecord}
-use Rattle.attempt.specs.OwnList.{wordOf}
 use Rattle.attempt.specs.Start.{Input, Start, isAccepted, startRules, startOf, refusedStart, openedStart, opened, blank}
 use Rattle.attempt.specs.Step.{unchanged, stepOf, stepOfAny, countsFit, couldBeAttempt}
 use Rattle.attempt.specs.declared.Attempt.{Attempt}
@@ -23,8 +20,6 @@ use Rattle.attempt.specs.declared.End.the-variants.{Open, Completed, Closed}
 use Rattle.attempt.specs.declared.Event.{Event}
 use Rattle.attempt.proofs.Demand3.{start-accepted}
 use Rattle.attempt.proofs.Keeps.{Keeps, step-keeps, passing-kept, start-passes}
-use Rattle.attempt.proofs.OwnLists.{length-members}
-use Rattle.client_verdict.proofs.Judged.{counts-table}
 use Rattle.c_record.specs.Numbers.{flag}
 use Rattle.c_record.specs.Records.{marksFit, markFits, endOf, markOf, markValue, isRecord, attemptOf, recordOf, zeroed}
 use Rattle.c_record.specs.Records.{eventOf, eventOn, leftAfter, asFound, stepRecord}
@@ -54,16 +49,6 @@ fitting r h =
 pub record-parts : (r : Record) → isRecord r ≡ true → (marksFit r ≡ true) × (couldBeAttempt (attemptOf r) ≡ true)
 unfolding isRecord
 record-parts r h = both-true (marksFit r) _ h
-
--- Its own list fits the array
-pub own-count : (r : Record) → isRecord r ≡ true → length (ownOf (attemptOf r)) ≤ maxTable
-unfolding ownOf attemptOf
-own-count r h =
-    let a = attemptOf r in
-    let table = counts-table a (both-true (countsFit a) _ (record-parts r h .1) .0) in
-    let used = length-take (a .«table_len») (a .table) in
-    let own = length-members (wordOf (tableOf a) (a .rows) (a .attempted)) (tableOf a) in
-    omega (arith, table, used, own)
 
 -- An attempt comes back from its record
 

@@ -7,7 +7,7 @@ use lib.Dec.{eqb, leb}
 use lib.ListN.{replicate}
 use Rattle.versions.specs.Limits.{maxTable}
 use Rattle.information.specs.declared.Presence.the-variants.{Missing, Given}
-use Rattle.attempt.specs.Attempt.{listInPlaces, ownListOf}
+use Rattle.attempt.specs.Attempt.{ownOf}
 use Rattle.attempt.specs.Limits.{maxID}
 use Rattle.attempt.specs.Start.{Input, startOf}
 use Rattle.attempt.specs.Step.{After, stepOf, couldBeAttempt}
@@ -16,7 +16,6 @@ use Rattle.attempt.specs.declared.End.{End}
 use Rattle.attempt.specs.declared.End.the-variants.{Open, Completed, Closed}
 use Rattle.attempt.specs.declared.Event.{Event}
 use Rattle.attempt.specs.declared.Event.the-variants.{Datagram, PacketProcessed, Outcome}
-use Rattle.attempt.specs.declared.OwnList.{OwnList}
 use Rattle.c_record.specs.Numbers.{flag, notValid, refusalOf}
 use Rattle.c_record.specs.declared.Record.{Record}
 use Rattle.c_record.specs.declared.RecordAndRefusal.{RecordAndRefusal}
@@ -140,5 +139,5 @@ abbrev pub shownLeft : RecordAndRefusal → Left
 shownLeft s = record { left = s .attempt; refusal = s .refusal }
 
 -- The own list of its attempt; the empty list for a record that could not be an attempt's
-unfoldable pub ownRecord : Record → OwnList
-ownRecord r = cond (isRecord r) (ownListOf (attemptOf r)) (listInPlaces [])
+unfoldable pub ownRecord : Record → List ℕ
+ownRecord r = cond (isRecord r) (ownOf (attemptOf r)) []

@@ -1,19 +1,22 @@
 // The start of an attempt, and its own list, over the record without enums.
+ghost use mathlib.Core.Bool.{false};
 ghost use mathlib.Core.Path.{_≡_};
+ghost use lib.ListN.{length};
+ghost use Rattle.attempt.specs.Attempt.{over};
 ghost use Rattle.attempt.specs.Start.{inputOf, startReply};
 ghost use Rattle.c_record.specs.Numbers.{refusalOf};
 ghost use Rattle.c_record.specs.Records.{isRecord, startRecord, ownRecord, shownLeft};
-use crate::KnownOwnList;
+use crate::OwnCount;
 use crate::Record;
 use crate::RecordAndRefusal;
-use crate::coding::decode;
+use crate::coding::counts_fit;
 use crate::coding::encode;
-use crate::coding::is_record;
-use attempt::OwnList;
+use crate::coding::marks_fit;
 use attempt::StartAnswer;
-use attempt::own::own_list;
+use attempt::own::put_members;
 use client_start::start;
 use versions::MAX_TABLE;
+use versions::table::place_of;
 
 // Starts an attempt: its record and 0. Refusals, in order: 41, 43, 44, 45, with the record of no attempt.
 pub fn start_record(
@@ -44,19 +47,38 @@ fn start_number(answer: StartAnswer) -> u32
     }
 }
 
-// The own list of an attempt, and whether the record could be an attempt's. It refuses nothing; one that could not
-// gets the empty list.
-pub fn own_of(held: Record) -> KnownOwnList
+// Puts the own list of an attempt at the front of the places, and answers how many versions it has, and whether the
+// record could be an attempt's. It refuses nothing; one that could not has the empty list. The places past the list keep
+// their values.
+pub fn put_own(held: Record, versions: &mut [u32; MAX_TABLE]) -> OwnCount
     ensures known { λ r. ⌜ r .known ≡ isRecord held ⌝ }
-    ensures list { λ r. ⌜ r .list ≡ ownRecord held ⌝ }
+    ensures counted { λ r. ⌜ r .count ≡ length (ownRecord held) ⌝ }
+    ensures left { λ _. ⌜ now (versions .exit) ≡ over (ownRecord held) (now (versions .entry)) ⌝ }
 {
-    if !is_record(held) {
-        let list = OwnList {
-            versions: [0; MAX_TABLE],
-            count: 0,
-        };
-        return KnownOwnList { known: false, list };
+    if !marks_fit(held) {
+        return no_list();
     }
-    let list = own_list(decode(held));
-    KnownOwnList { known: true, list }
+    if !counts_fit(held) {
+        return no_list();
+    }
+    let table = held.table;
+    let length = held.table_len as usize;
+    let place = place_of(&table[..length], held.attempted);
+    if length <= place {
+        return no_list();
+    }
+    let rows = held.rows;
+    let count = put_members(&table[..length], rows[place], versions);
+    OwnCount { known: true, count }
+}
+
+// The answer for a record that could not be an attempt's.
+fn no_list() -> OwnCount
+    ensures unknown { λ r. ⌜ r .known ≡ false ⌝ }
+    ensures none { λ r. ⌜ r .count ≡ 0 ⌝ }
+{
+    OwnCount {
+        known: false,
+        count: 0,
+    }
 }

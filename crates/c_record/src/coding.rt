@@ -7,7 +7,9 @@ ghost use Rattle.c_record.specs.Records.{isRecord, marksFit, markFits, a
 use crate::Record;
 use attempt::Attempt;
 use attempt::End;
+use attempt::MAX_ID;
 use client_verdict::could_be_attempt;
+use versions::MAX_TABLE;
 
 // Whether what is judged of a record is as an attempt has it: flags, end mark, unused word, counts, and that the
 // attempted version is in the table. It refuses nothing.
@@ -34,6 +36,19 @@ pub(crate) fn marks_fit(held: Record) -> bool
         return false;
     }
     held.unused == 0
+}
+
+// Whether the counts are within their arrays.
+pub(crate) fn counts_fit(held: Record) -> bool
+    ensures { λ r. ⌜ r ≡ countsFit (attemptOf held) ⌝ }
+{
+    if MAX_TABLE < held.table_len as usize {
+        return false;
+    }
+    if MAX_ID < held.destination_len as usize {
+        return false;
+    }
+    held.source_len as usize <= MAX_ID
 }
 
 fn mark_fits(mark: u32, value: u32) -> bool

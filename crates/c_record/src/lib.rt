@@ -5,7 +5,6 @@ pub mod coding; // the record of an attempt, and back
 pub mod events; // the events
 
 use attempt::MAX_ID;
-use attempt::OwnList;
 use versions::MAX_TABLE;
 
 // The number for what no caller may hand over, outside document 01's table.
@@ -43,8 +42,8 @@ pub struct RecordAndRefusal {
     pub refusal: u32,
 }
 
-// The own list of a record's attempt, and whether the record could be an attempt's.
-pub struct KnownOwnList {
+// How many versions the own list of a record's attempt has, and whether the record could be an attempt's.
+pub struct OwnCount {
     pub known: bool,
-    pub list: OwnList,
+    pub count: usize,
 }

@@ -9,7 +9,7 @@ use attempt::Attempt;
 use attempt::MAX_ID;
 use refusals::Refusal;
 use versions::MAX_TABLE;
-use versions::table::contains;
+use versions::table::holds;
 
 // What an event does to an attempt.
 pub enum Verdict {
@@ -41,5 +41,5 @@ pub fn could_be_attempt(attempt: Attempt) -> bool
     }
     let table = attempt.table;
     let count = attempt.table_len;
-    contains(&table[..count], attempt.attempted)
+    holds(&table[..count], attempt.attempted)
 }

@@ -98,6 +98,17 @@ place-absent v (x ∷ xs) h = go (eqb x v) h (place-absent v xs)
     go true h ih = absurd (omega arith)
     go false h ih = ih (omega arith)
 
+-- one with a place in it does
+pub place-present : (v : ℕ) (xs : List ℕ) → placeOf v xs < length xs → elem v xs ≡ true
+unfolding placeOf elem
+place-present v [] h = absurd (omega arith)
+place-present v (x ∷ xs) h = go (eqb x v) h (place-present v xs)
+  where
+    go : (b : Bool) → cond b 0 (suc (placeOf v xs)) < suc (length xs) → (placeOf v xs < length xs → elem v xs ≡ true) →
+        (b || elem v xs) ≡ true
+    go true h ih = refl
+    go false h ih = ih (omega arith)
+
 -- `eachPairKeepsRule`
 module _ (ps : List (List ℕ)) (i : ℕ) where
   pub pairs-broken : i < length ps → pairKeepsRule (getD ps i []) ≡ false → eachPairKeepsRule (drop i ps) ≡ false

@@ -46,16 +46,16 @@ returns-3 c = rw (source-over (from2 (c .before .before) .args .attempt) (c .if3
 array-share-prefix-table : tie.Need-array-share-prefix-table
 array-share-prefix-table c = table-fits (c .before)
 
-slice-aggregate-contains : tie.Need-slice-aggregate-contains
-slice-aggregate-contains c =
+slice-aggregate-holds : tie.Need-slice-aggregate-holds
+slice-aggregate-holds c =
     let l = table-fits (c .before .before) in
     simp length-take (omega arith)
 
-contains-requires : tie.Need-contains-requires
-contains-requires c κs = search needs
+holds-requires : tie.Need-holds-requires
+holds-requires c κs = search needs
 
 returns-4 : tie.Need-returns-4
-returns-4 c = rw (fits (c .before .before .before)) (c .contains .ensures)
+returns-4 c = rw (fits (c .before .before .before)) (c .holds .ensures)
 
 pub could-be-attempt-spec : {M : Type 1} → statement M
 could-be-attempt-spec =
@@ -65,6 +65,6 @@ could-be-attempt-spec =
     returns-2
     returns-3
     array-share-prefix-table
-    slice-aggregate-contains
-    contains-requires
+    slice-aggregate-holds
+    holds-requires
     returns-4)
