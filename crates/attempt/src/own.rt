@@ -40,11 +40,15 @@ pub fn put_members(table: &[u32], word: u64, places: &mut [u32; MAX_TABLE]) -> u
     let mut rest = word;
     let mut i = 0;
     while i < count {
-        if rest % 2 == 1 {
-            places[found] = table[i];
-            found += 1;
+        // Past the bits that are not set, up to the next that is.
+        let skipped = u64::trailing_zeros(rest) as usize;
+        if count - i <= skipped {
+            return found;
         }
-        rest = rest / 2;
+        i += skipped;
+        places[found] = table[i];
+        found += 1;
+        rest = (rest >> skipped) / 2;
         i += 1;
     }
     found
