@@ -174,7 +174,7 @@ static void client(const uint8_t *packet, size_t packet_len)
     EXPECT(attempt.attempted == 14 && attempt.end_mark == QV_OPEN);
 
     /* The new first flight has the own list in its Version Information. */
-    EXPECT(qv_own_list(attempt, own, &own_count) == QV_OK);
+    EXPECT(qv_own_list(&attempt, own, &own_count) == QV_OK);
     EXPECT(own_count == 1 && own[0] == 14 && own[1] == 7);
     EXPECT(qv_write_information(QV_CLIENT, attempt.attempted, own, own_count, information,
                                 sizeof information, &count) == QV_OK);
@@ -256,7 +256,7 @@ static void no_attempt(struct qv_attempt attempt)
     EXPECT(qv_packet_processed(&attempt) == QV_NOT_VALID);
     EXPECT(qv_outcome(&attempt, 1, information, sizeof information) == QV_NOT_VALID);
     EXPECT(qv_outcome_without_information(&attempt, 0) == QV_NOT_VALID);
-    EXPECT(qv_own_list(attempt, own, &count) == QV_NOT_VALID && own[0] == 7 && count == 7);
+    EXPECT(qv_own_list(&attempt, own, &count) == QV_NOT_VALID && own[0] == 7 && count == 7);
     EXPECT(memcmp(&attempt, &found, sizeof attempt) == 0);
 }
 

@@ -328,7 +328,8 @@ uint32_t qv_event(struct qv_attempt *attempt, uint32_t kind, uint32_t value, con
  * Else: *count versions; places past them keep their values.
  */
 QV_CHECKED
-uint32_t qv_own_list(struct qv_attempt attempt, uint32_t versions[QV_MAX_TABLE], size_t *count);
+uint32_t qv_own_list(const struct qv_attempt *attempt, uint32_t versions[QV_MAX_TABLE],
+                     size_t *count);
 
 /*
  * Each event by its own name; refusals as qv_event's.

@@ -3,3 +3,4 @@ pub mod Marked
 pub mod Masks
 pub mod Repeated
 pub mod Reserved
+pub mod Worked

@@ -13,7 +13,7 @@ use borrow.Author.Tests.{eq-eqb, ne-eqb, leb-true}
 use lib.Dec.{eqb, leb}
 use Rattle.refusals.proofs.Rules.{both-true}
 use Rattle.versions.specs.Limits.{maxTable}
-use Rattle.versions.specs.Pairs.{fromOf, toOf, pairKeepsRule, eachPairKeepsRule, paired}
+use Rattle.versions.specs.Pairs.{pairKeepsRule, eachPairKeepsRule}
 use Rattle.versions.specs.Table.{elem, placeOf, entriesKeepRule, tableKeepsRule}
 use Rattle.versions.specs.Version.{usable}
 
@@ -122,21 +122,3 @@ module _ (ps : List (List ℕ)) (i : ℕ) where
   pub pairs-end : length ps ≤ i → eachPairKeepsRule (drop i ps) ≡ true
   unfolding eachPairKeepsRule
   pairs-end h = rw (drop-of-length-le ps h)
-
--- `paired`, from a to b
-module _ (a b : ℕ) (ps : List (List ℕ)) (i : ℕ) where
-  pub paired-here : i < length ps → fromOf (getD ps i []) ≡ a → toOf (getD ps i []) ≡ b → paired (drop i ps) a b ≡ true
-  unfolding paired
-  paired-here h e f = rw (drop-next ps i [] h, eq-eqb _ _ e, eq-eqb _ _ f)
-
-  pub paired-not-from : i < length ps → (fromOf (getD ps i []) ≡ a → ⊥) → paired (drop i ps) a b ≡ paired (drop (i + 1) ps) a b
-  unfolding paired
-  paired-not-from h e = rw (drop-next ps i [] h, ne-eqb _ _ e)
-
-  pub paired-not-to : i < length ps → fromOf (getD ps i []) ≡ a → (toOf (getD ps i []) ≡ b → ⊥) → paired (drop i ps) a b ≡ paired (drop (i + 1) ps) a b
-  unfolding paired
-  paired-not-to h e f = rw (drop-next ps i [] h, eq-eqb _ _ e, ne-eqb _ _ f)
-
-  pub paired-end : length ps ≤ i → paired (drop i ps) a b ≡ false
-  unfolding paired
-  paired-end h = rw (drop-of-length-le ps h)

@@ -1,6 +1,6 @@
 // Tables of compatible pairs (from, to). Pairs are neither turned round nor chained.
 ghost use mathlib.Core.Path.{_≡_};
-ghost use Rattle.versions.specs.Pairs.{paired, pairKeepsRule, pairsKeepRule};
+ghost use Rattle.versions.specs.Pairs.{pairKeepsRule, pairsKeepRule};
 use crate::MAX_PAIRS;
 use crate::table::is_usable;
 
@@ -35,21 +35,4 @@ fn is_pair(pair: [u32; 2]) -> bool
         return false;
     }
     from != to
-}
-
-// Whether `to` is paired from `from`.
-pub fn is_paired(pairs: &[[u32; 2]], from: u32, to: u32) -> bool
-    ensures { λ r. ⌜ r ≡ paired (now (pairs .entry)) from to ⌝ }
-{
-    let mut i = 0;
-    while i < pairs.len() {
-        let pair = pairs[i];
-        if pair[0] == from {
-            if pair[1] == to {
-                return true;
-            }
-        }
-        i += 1;
-    }
-    false
 }

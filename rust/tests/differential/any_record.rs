@@ -68,7 +68,7 @@ fn change(random: &mut Random, record: &mut Record) {
             record.end_value = *random.pick(&[0, 0, 75, 255, 256, version]);
         }
         13 => record.unused = u32::from(random.one_in(4)),
-        _ => record.source[place] = random.next_u32() as u8,
+        _ => record.source[random.below(MAX_ID)] = random.next_u32() as u8,
     }
 }
 

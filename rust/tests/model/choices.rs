@@ -14,12 +14,12 @@ fn is_plain(v: u32) -> bool {
     v != 0 && !is_reserved(v)
 }
 
-/// "A table of versions has 1 to 16 entries, none 0, none reserved, none twice."
+/// "A table of versions has 1 to 16 entries, none 0, none reserved, none twice", now to 64 (C-14).
 pub fn is_table(t: &[u32]) -> bool {
     (1..=MAX_TABLE).contains(&t.len()) && t.iter().copied().all(is_plain) && set(t).len() == t.len()
 }
 
-/// "0 to 64 pairs, no member 0 or reserved, no pair of equal members; a
+/// "0 to 64 pairs" (now 1,024, C-14), "no member 0 or reserved, no pair of equal members; a
 /// repeated pair is harmless."
 pub fn are_pairs(p: &[(u32, u32)]) -> bool {
     p.len() <= MAX_PAIRS

@@ -23,9 +23,10 @@ pub const MAX_DATAGRAM: usize = 65_535;
 pub const MAX_WIRE_ID: usize = 255;
 /// "at most 16,382 of them"
 pub const MAX_LIST: usize = 16_382;
-/// "A table of versions has 1 to 16 entries"
+/// "A table of versions has 1 to 16 entries"; document 02, C-14: "Tables go from 16 to 64 entries"
 pub const MAX_TABLE: usize = 64;
-/// "A table of compatible pairs (from, to) has 0 to 64 pairs"
+/// "A table of compatible pairs (from, to) has 0 to 64 pairs"; document 02, C-14: "pairs from 64 to
+/// 1,024"
 pub const MAX_PAIRS: usize = 1_024;
 /// "0 to 255 Available Versions of 4 bytes"
 pub const MAX_AVAILABLE: usize = 255;

@@ -58,9 +58,12 @@ fn slip_client_order_of_preference() {
 
 #[test]
 fn tables() {
-    let numbers: Vec<u32> = (1..=17).collect();
-    assert!(is_table(&numbers[..1]));
-    assert!(is_table(&numbers[..16]));
+    // Document 02, C-14: "Tables go from 16 to 64 entries".
+    let numbers: Vec<u32> = (1..=66).collect();
+    for entries in [1, 16, 17, 63, 64] {
+        assert!(is_table(&numbers[..entries]), "{}", entries);
+    }
+    assert!(!is_table(&numbers[..65]));
     assert!(!is_table(&numbers));
     assert!(!is_table(&[]));
     assert!(!is_table(&[1, 0]));
@@ -72,8 +75,12 @@ fn tables() {
 #[test]
 fn pair_tables() {
     assert!(are_pairs(&[]));
-    assert!(are_pairs(&[(1, 2); 64]));
-    assert!(!are_pairs(&[(1, 2); 65]));
+    // Document 02, C-14: "pairs from 64 to 1,024".
+    for count in [64, 65, 1_023, 1_024] {
+        assert!(are_pairs(&vec![(1, 2); count]), "{}", count);
+    }
+    assert!(!are_pairs(&[(1, 2); 1_025]));
+    assert!(!are_pairs(&[(1, 2); 1_026]));
     assert!(are_pairs(&[(1, 2), (2, 1)]));
     for bad in [(0, 1), (1, 0), (0x1a2a_3a4a, 1), (1, 0x1a2a_3a4a), (1, 1)] {
         assert!(!are_pairs(&[(1, 2), bad]), "{:?}", bad);

@@ -99,6 +99,54 @@ fn reach_of_the_fewest_bytes() {
     over.holds(&[0, 21, 22, 23, 24, 25, 26], 20);
 }
 
+/// Tables and pairs on both sides of their limits, alone and in the calls that take them.
+#[test]
+fn reach_of_the_limits() {
+    let mut random = Random::new(4);
+    let (mut tables, mut pairs) = <(BTreeMap<usize, usize>, BTreeMap<usize, usize>)>::default();
+    let (mut started, mut decided) = ([0; 2], [0; 2]);
+    for _ in 0..20_000 {
+        let (start, server) = (random.start_call(), random.server_call());
+        for table in [random.table(), start.table.clone(), server.accepted.clone()] {
+            *tables.entry(table.len()).or_insert(0) += 1;
+        }
+        for pairs_of in [random.pairs(), start.pairs.clone(), server.pairs.clone()] {
+            *pairs.entry(pairs_of.len()).or_insert(0) += 1;
+        }
+        let full = (start.table.len(), start.pairs.len()) == (MAX_TABLE, MAX_PAIRS);
+        started[usize::from(start.start().is_ok())] += usize::from(full);
+        let answer = server_choice(
+            &server.readable,
+            &server.accepted,
+            &server.pairs,
+            server.version,
+            server.information.as_deref(),
+        );
+        let full = (server.accepted.len(), server.pairs.len()) == (MAX_TABLE, MAX_PAIRS);
+        decided[usize::from(answer.is_ok())] += usize::from(full);
+    }
+    let often = |counts: &BTreeMap<usize, usize>, size, least| {
+        let seen = counts.get(&size).copied().unwrap_or(0);
+        assert!(seen >= least, "{} of size {}", seen, size);
+    };
+    for size in 0..=66 {
+        often(&tables, size, 50);
+    }
+    for size in [0, 1, 63, 64, 65, 66] {
+        often(&tables, size, 400);
+    }
+    for size in [0, 1, 1_023, 1_024, 1_025, 1_026] {
+        often(&pairs, size, 400);
+    }
+    assert!(*tables.keys().last().unwrap() == 66 && *pairs.keys().last().unwrap() == 1_026);
+    // Full tables with all pairs: refused for another reason, and not refused.
+    assert!(
+        started[1] >= 20 && decided[1] >= 20,
+        "{:?}",
+        (started, decided)
+    );
+}
+
 /// Event lists: their reach, and the step by step answer against the
 /// statement on the whole list.
 #[test]

@@ -189,10 +189,11 @@ fn small_datagrams() {
 fn longest_packet() {
     let received = long_packet(0, 99, &[7; 255], &[8; 255], &[0; 683]);
     let offered: Vec<u32> = (1..=MAX_TABLE as u32).collect();
-    assert_eq!(version_negotiation(&received, &offered, 0, 580), Err(26));
-    let sent = version_negotiation(&received, &offered, 0, 581).unwrap();
+    assert_eq!(version_negotiation(&received, &offered, 0, 772), Err(26));
+    // Document 02, C-14: "the largest packet sent is 773 bytes".
+    let sent = version_negotiation(&received, &offered, 0, 773).unwrap();
     assert_eq!(sent, packet(&[8; 255], &[7; 255], &offered));
-    assert_eq!(sent.len(), 581);
+    assert_eq!(sent.len(), 773);
 }
 
 #[test]

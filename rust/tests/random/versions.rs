@@ -75,7 +75,7 @@ impl Random {
         let entries = match self.below(8) {
             0 => 1,
             1..=5 => 2 + self.below(4),
-            6 => MAX_TABLE,
+            6 => MAX_TABLE - self.below(2),
             _ => 1 + self.below(MAX_TABLE),
         };
         self.distinct(entries)
@@ -105,7 +105,10 @@ impl Random {
         table.truncate(MAX_TABLE - 1);
         match self.below(6) {
             0 => table.clear(),
-            1 => table = self.distinct(MAX_TABLE + 1),
+            1 => {
+                let entries = MAX_TABLE + 1 + self.below(2);
+                table = self.distinct(entries);
+            }
             2 | 3 => {
                 let again = *self.pick(&table);
                 self.insert(&mut table, again);
@@ -136,7 +139,7 @@ impl Random {
     pub fn good_pairs_among(&mut self, versions: &[u32]) -> Vec<(u32, u32)> {
         let count = match self.below(16) {
             0 | 1 => 0,
-            2 => MAX_PAIRS,
+            2 => MAX_PAIRS - self.below(2),
             3 => self.below(MAX_PAIRS + 1),
             _ => 1 + self.below(8),
         };
@@ -183,7 +186,8 @@ impl Random {
             (good, good),
         ]);
         if self.one_in(6) {
-            return self.pairs_of(MAX_PAIRS + 1, versions);
+            let count = MAX_PAIRS + 1 + self.below(2);
+            return self.pairs_of(count, versions);
         }
         self.insert(&mut pairs, bad);
         pairs

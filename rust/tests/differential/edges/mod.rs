@@ -5,6 +5,7 @@ use crate::model::{self, Event};
 
 mod attempts;
 mod choices;
+mod tables;
 mod wire;
 
 /// The crate's limits are those of the model, which the library is compared with.

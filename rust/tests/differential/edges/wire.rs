@@ -1,7 +1,7 @@
 //! Every length of datagrams, buffers and Version Information.
 
 use crate::checks::*;
-use crate::model::Event;
+use crate::model::{Event, MAX_TABLE};
 use crate::random;
 use quic_version::{MAX_PACKET, MIN_ANSWERED_DATAGRAM};
 
@@ -74,8 +74,9 @@ fn longest_datagrams() {
 fn every_length_of_the_buffer() {
     let rest = [1; MIN_ANSWERED_DATAGRAM];
     let received = random::long_packet(0, 12, &[7; 20], &[8; 3], &rest);
-    let offered: Vec<u32> = (100..116).collect();
-    for room in 0..=100 {
+    let offered: Vec<u32> = (100..).take(MAX_TABLE).collect();
+    let enough = 7 + 20 + 3 + 4 * MAX_TABLE + 10;
+    for room in 0..=enough {
         check_write_version_negotiation(&received, &offered, 127, room).unwrap();
         check_write_information(0, 100, &offered, room).unwrap();
         check_write_information(1, 99, &[], room).unwrap();
@@ -83,7 +84,7 @@ fn every_length_of_the_buffer() {
     for (destination, source) in [(255, 255), (0, 255), (255, 0), (0, 0)] {
         let (destination, source) = (vec![7; destination], vec![8; source]);
         let received = random::long_packet(0, 12, &destination, &source, &rest);
-        for room in 70..=590 {
+        for room in 4 * MAX_TABLE..=MAX_PACKET + 10 {
             check_write_version_negotiation(&received, &offered, 0, room).unwrap();
         }
     }

@@ -82,7 +82,7 @@ loop-again c =
     let k = at .loop .k in (
       omega arith,
       rw (c .mark .ensures, at .loop .inv .1, place)
-      (rows-hit table (entry .pre) pairs (k - 1) k (omega arith) (omega arith) (rw (← place) (c .before .if1 .taken))),
+          (rows-hit table (entry .pre) pairs (k - 1) k (omega arith) (omega arith) (rw (← place) (c .before .if1 .taken))),
     )
 
 loop-less-2 : tie.Need-loop-less-2 Inv-loop μ-loop
@@ -98,7 +98,7 @@ loop-again-2 c =
     let k = at .loop .k in (
       omega arith,
       at .loop .inv .1 ∙
-      rows-miss table (entry .pre) pairs (k - 1) k (omega arith) (omega arith) (rw (← place) (c .if1 .left)),
+          rows-miss table (entry .pre) pairs (k - 1) k (omega arith) (omega arith) (rw (← place) (c .if1 .left)),
     )
 
 returns : tie.Need-returns Inv-loop μ-loop

@@ -1,0 +1,41 @@
+-- The rules of tables and pairs at their limits, computed: the most that there may be, and one more. Document 02, C-14:
+-- "Tables go from 16 to 64 entries, pairs from 64 to 1,024".
+use Prim.Native.Nat.{ℕ, zero, suc}
+use mathlib.Core.Bool.{true, false}
+use mathlib.Core.List.{List, [], _∷_}
+use mathlib.Core.Path.{_≡_, refl}
+use lib.ListN.{replicate}
+use Rattle.versions.specs.Pairs.{pairKeepsRule, eachPairKeepsRule, pairsKeepRule}
+use Rattle.versions.specs.Table.{elem, entriesKeepRule, tableKeepsRule}
+use Rattle.versions.specs.Version.{reserved, usable}
+
+-- The versions from n down to 1
+abbrev down-from : ℕ → List ℕ
+down-from zero = []
+down-from (suc n) = suc n ∷ down-from n
+
+abbrev one-to-two : List ℕ
+one-to-two = 1 ∷ 2 ∷ []
+
+pub record Limits : Type 0 where
+  pub no-entry : tableKeepsRule [] ≡ false
+  pub one-entry : tableKeepsRule (down-from 1) ≡ true
+  pub most-entries : tableKeepsRule (down-from 64) ≡ true
+  pub one-entry-more : tableKeepsRule (down-from 65) ≡ false
+  pub no-pair : pairsKeepRule [] ≡ true
+  -- "a repeated pair is harmless"
+  pub most-pairs : pairsKeepRule (replicate 1024 one-to-two) ≡ true
+  pub one-pair-more : pairsKeepRule (replicate 1025 one-to-two) ≡ false
+
+pub limits : Limits
+unfolding pairKeepsRule eachPairKeepsRule pairsKeepRule elem entriesKeepRule tableKeepsRule reserved usable
+limits =
+    record {
+      no-entry = refl;
+      one-entry = refl;
+      most-entries = refl;
+      one-entry-more = refl;
+      no-pair = refl;
+      most-pairs = refl;
+      one-pair-more = refl;
+    }
