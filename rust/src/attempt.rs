@@ -152,7 +152,7 @@ impl Attempt {
         self.record.original
     }
 
-    /// The table of versions, best first: 1 to 16 of them.
+    /// The table of versions, best first: 1 to [`MAX_TABLE`](crate::MAX_TABLE) of them.
     pub fn table(&self) -> &[u32] {
         &self.record.table[..self.record.table_len as usize]
     }

@@ -1,5 +1,5 @@
 -- Document 01: "a repeated pair is harmless". A start with a pair put in again, at any place, hands back the same record
--- and the same answer, the limit of 64 pairs aside; so every event after it does the same.
+-- and the same answer, the limit of pairs aside; so every event after it does the same.
 use Prim.Native.Nat.{ℕ, _≤_}
 use mathlib.Core.Bool.{Bool, true, _||_}
 use mathlib.Core.List.{List, [], _∷_, _++_}

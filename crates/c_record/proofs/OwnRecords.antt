@@ -1,12 +1,12 @@
 -- The own list of a record, by the tests of the record and the first place of its attempted version.
 use Prim.Native.Nat.{ℕ, _≤_, _<_}
 use mathlib.Core.Bool.{true, false}
-use mathlib.Core.List.{List, []}
-use mathlib.Core.Path.{_≡_, refl, sym, ap, _∙_}
+use mathlib.Core.List.{[]}
+use mathlib.Core.Path.{_≡_}
 use lib.ListN.{length, getD}
-use Rattle.versions.specs.Table.{elem, placeOf}
+use Rattle.versions.specs.Table.{placeOf}
 use Rattle.versions.proofs.Lists.{place-absent, place-present}
-use Rattle.attempt.specs.Attempt.{over, tableOf, ownOf}
+use Rattle.attempt.specs.Attempt.{tableOf, ownOf}
 use Rattle.attempt.specs.OwnList.{members}
 use Rattle.attempt.specs.Step.{countsFit}
 use Rattle.attempt.proofs.Walks.{word-at}

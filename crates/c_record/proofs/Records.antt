@@ -10,7 +10,6 @@ use lib.Dec.{eqb, leb}
 use borrow.Author.Tests.{leb-true, ne-eqb, eqb-true, eqb-false}
 use Rattle.refusals.proofs.Rules.{both-true, lowest-applies}
 use Rattle.versions.specs.Table.{elem}
-use Rattle.attempt.specs.Attempt.{tableOf, ownOf}
 use Rattle.attempt.specs.Limits.{notARecord}
 use Rattle.attempt.specs.Start.{Input, Start, isAccepted, startRules, startOf, refusedStart, openedStart, opened, blank}
 use Rattle.attempt.specs.Step.{unchanged, stepOf, stepOfAny, countsFit, couldBeAttempt}

@@ -9,7 +9,7 @@ use lib.ListN.{length, take, drop, getD, set, replicate, length-set, drop-of-len
 use lib.Seq.{set-append-left}
 use borrow.Author.Tests.{eqb-true, eqb-false}
 use Rattle.versions.specs.Limits.{maxTable}
-use Rattle.versions.specs.Pairs.{fromOf, toOf, paired}
+use Rattle.versions.specs.Pairs.{fromOf, toOf}
 use Rattle.versions.specs.Table.{elem, placeOf, entriesKeepRule, tableKeepsRule}
 use Rattle.versions.specs.Words.{wordBits, wordWhere, wordFrom, marked}
 use Rattle.versions.proofs.Lists.{drop-next, table-entries, place-absent}

@@ -1,5 +1,5 @@
 -- Document 01: "a repeated pair is harmless". With a pair put in again, at any place, the server decides the same, the
--- limit of 64 pairs aside.
+-- limit of pairs aside.
 use Prim.Native.Nat.{ℕ, _≤_}
 use mathlib.Core.Bool.{Bool, true, _&&_, _||_}
 use mathlib.Core.List.{List, [], _∷_, _++_}

@@ -1,5 +1,5 @@
 -- Document 01: "a repeated pair is harmless". A pair that is in the table of pairs already may be put in again, at any
--- place: the same versions are paired, and the table keeps its rule as before, its 64 pairs aside.
+-- place: the same versions are paired, and the table keeps its rule as before, the limit of pairs aside.
 use Prim.Native.Nat.{ℕ, _≤_}
 use mathlib.Core.Bool.{Bool, true, false, not, _&&_, _||_, and-false, false≢true}
 use mathlib.Core.List.{List, [], _∷_, _++_}

@@ -1,12 +1,10 @@
 -- `word_from`: from the pairs' end on, the word so far is that of the rest of the pairs.
-use Prim.Native.Nat.{ℕ, _-_, _≤_}
-use mathlib.Core.List.{List, []}
-use mathlib.Core.Path.{_≡_, sym, ap, _∙_}
+use Prim.Native.Nat.{_-_, _≤_}
+use mathlib.Core.Path.{_≡_, _∙_}
 use native.Mathlib.Omega.{arith}
-use lib.ListN.{length, take, drop, getD}
+use lib.ListN.{length, drop}
 use borrow.Author.Needs.{needs}
-use Rattle.versions.specs.Pairs.{toOf}
-use Rattle.versions.specs.Words.{marked, wordFrom}
+use Rattle.versions.specs.Words.{wordFrom}
 use Rattle.server.proofs.Flights.{from-end, from-hit, from-miss}
 use Rattle.server.proofs.word_from.Statement.{statement}
 use Rattle.server.proofs.word_from.Tie as tie

@@ -1,6 +1,5 @@
 -- `own_list`: the members by the attempted version's word, put over zeros, are the own list in places.
 use Prim.Native.Nat.{ℕ, _≤_, min}
-use mathlib.Core.List.{List}
 use mathlib.Core.Path.{_≡_, sym, ap, _∙_}
 use native.Mathlib.Omega.{arith}
 use lib.ListN.{length, take, length-take}

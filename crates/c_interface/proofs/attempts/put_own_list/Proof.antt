@@ -1,13 +1,10 @@
 -- `put_own_list` meets its contract: a record that is none is refused, and its empty list leaves what was lent; else the
 -- own list is over it.
 use mathlib.Core.Bool.{true, false}
-use mathlib.Core.List.{List, []}
-use mathlib.Core.Path.{_≡_, refl, sym, ap, _∙_}
+use mathlib.Core.Path.{_≡_, refl, sym, _∙_}
 use borrow.Author.Needs.{needs}
 use borrow.Author.Tests.{not-true, not-false}
-use Rattle.attempt.specs.Attempt.{ownOf}
-use Rattle.c_record.specs.Records.{isRecord, attemptOf, ownRecord}
-use Rattle.c_record.specs.declared.Record.{Record}
+use Rattle.c_record.specs.Records.{isRecord, ownRecord}
 use Rattle.c_interface.proofs.attempts.put_own_list.Statement.{statement}
 use Rattle.c_interface.proofs.attempts.put_own_list.Tie as tie
 

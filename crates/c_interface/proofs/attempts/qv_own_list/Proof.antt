@@ -38,6 +38,7 @@ use types.Kit.{Given, Item, ‵, raw, some, _⊛_, ⋆, _$_, _∵_, !, qed, by, 
 use types.Kit.{move, drop, use1, use2, split, join, fsplit, fsplit3, fjoin, fjoin3, feqI}
 use types.Run.{enter, alloc0, alloc1, params1, pass0, pass1, returns, forget, free0, free1}
 use types.Run.{assigns, addr, of-opd, load, and-then, no-more, land, from, hop, stop, look, look-raw, init}
+use Rattle.versions.specs.Limits.{maxTable}
 use Rattle.attempt.proofs.PlainData.{PlainData, struct-data, number-data, vals, IsData}
 use Rattle.attempt.proofs.PlainData.{seen, anew, looks-shared, handed-back}
 use Rattle.c_record.specs.declared.Record.{Record}
@@ -62,7 +63,7 @@ TheAnswer = number-data w32
 
 -- the list, in its places
 abbrev TheList : RattleType
-TheList = Array u32 tt 64
+TheList = Array u32 tt maxTable
 
 -- What `qv_own_list` still has of each parameter at exit: the record's borrow; of the list and of the count, which it
 -- has passed on for good, what says their last values

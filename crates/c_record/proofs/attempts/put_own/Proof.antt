@@ -10,7 +10,6 @@ use denote.Ref.{now}
 use lib.ListN.{length, take, getD, length-take}
 use lib.Seq.{take-all}
 use Rattle.versions.specs.Limits.{maxTable}
-use Rattle.versions.specs.Table.{placeOf}
 use Rattle.attempt.specs.Attempt.{over, tableOf}
 use Rattle.attempt.specs.OwnList.{members}
 use Rattle.attempt.specs.Step.{countsFit}
@@ -28,7 +27,8 @@ nothing : (r : Record) (found : List ℕ) (o : OwnCount) → isRecord r ≡ fals
 nothing r found o h k n = rw (k, n, h, no-own r h) (refl, (refl, refl))
 
 -- The members by the word at the attempted version's place are the own list
-own-members : (r : Record) (at : ℕ) → at ≡ place r → isRecord r ≡ true → place r < length (tableOf (attemptOf r)) → r .«table_len» ≤ maxTable →
+own-members : (r : Record) (at : ℕ) → at ≡ place r → isRecord r ≡ true → place r < length (tableOf (attemptOf r)) →
+    r .«table_len» ≤ maxTable →
     members (getD (r .rows) at 0) (take maxTable (take (r .«table_len») (r .table))) ≡ ownRecord r
 unfolding attemptOf
 own-members r at e h p few =

@@ -1,13 +1,10 @@
 -- `rows_for`: from the pairs' end on, the rows so far are those of the rest of the pairs.
-use Prim.Native.Nat.{ℕ, _-_, _<_, _≤_}
-use mathlib.Core.Bool.{true}
-use mathlib.Core.List.{List, []}
-use mathlib.Core.Path.{_≡_, sym, ap, _∙_}
+use Prim.Native.Nat.{_-_, _<_, _≤_}
+use mathlib.Core.Path.{_≡_, _∙_}
 use native.Mathlib.Omega.{arith}
-use lib.ListN.{length, drop, getD, set}
+use lib.ListN.{length, drop}
 use borrow.Author.Needs.{needs}
 use Rattle.versions.specs.Limits.{maxTable}
-use Rattle.versions.specs.Table.{tableKeepsRule}
 use Rattle.versions.proofs.Lists.{table-counts}
 use Rattle.attempt.specs.Attempt.{padded}
 use Rattle.attempt.specs.OwnList.{rowsFor}
