@@ -142,14 +142,15 @@ module _ (ts : List ℕ) (kept : entriesKeepRule ts ≡ true) (v : ℕ) where
   unfolding paired
   from-none = ap (marked ts v) (sym (none-set ts)) ∙ marked-set (λ t. false) v ts kept
 
-  module _ (p : List ℕ) (ps : List (List ℕ)) where
-    pub from-pair : fromOf p ≡ v → marked ts (toOf p) (wordFrom ts ps v) ≡ wordFrom ts (p ∷ ps) v
-    unfolding paired
-    from-pair e =
-        marked-set (λ t. eqb t v || paired ps v t) (toOf p) ts kept ∙
-        word-same (λ t. eqb t (toOf p) || (eqb t v || paired ps v t)) (λ t. eqb t v || paired (p ∷ ps) v t)
-        (λ t. rw (eq-eqb _ _ e, equal-turned t (toOf p)) (or-swap (eqb (toOf p) t) (eqb t v) (paired ps v t))) ts
+  pub from-pair : (p : List ℕ) (ps : List (List ℕ)) → fromOf p ≡ v →
+      marked ts (toOf p) (wordFrom ts ps v) ≡ wordFrom ts (p ∷ ps) v
+  unfolding paired
+  from-pair p ps e =
+      marked-set (λ t. eqb t v || paired ps v t) (toOf p) ts kept ∙
+      word-same (λ t. eqb t (toOf p) || (eqb t v || paired ps v t)) (λ t. eqb t v || paired (p ∷ ps) v t)
+      (λ t. rw (eq-eqb _ _ e, equal-turned t (toOf p)) (or-swap (eqb (toOf p) t) (eqb t v) (paired ps v t))) ts
 
-    pub from-other : (fromOf p ≡ v → ⊥) → wordFrom ts ps v ≡ wordFrom ts (p ∷ ps) v
-    unfolding paired
-    from-other e = word-same (λ t. eqb t v || paired ps v t) (λ t. eqb t v || paired (p ∷ ps) v t) (λ t. rw (ne-eqb _ _ e)) ts
+  pub from-other : (p : List ℕ) (ps : List (List ℕ)) → (fromOf p ≡ v → ⊥) → wordFrom ts ps v ≡ wordFrom ts (p ∷ ps) v
+  unfolding paired
+  from-other p ps e =
+      word-same (λ t. eqb t v || paired ps v t) (λ t. eqb t v || paired (p ∷ ps) v t) (λ t. rw (ne-eqb _ _ e)) ts
