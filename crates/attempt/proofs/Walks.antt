@@ -1,20 +1,21 @@
 -- The walks over a table: at each place i the rest of the table answers for the whole.
-use Prim.Native.Nat.{ℕ, zero, suc, _+_, _/_, _%_, _^_, _≤_, _<_, min}
+use Prim.Native.Nat.{ℕ, zero, suc, _+_, _-_, _*_, _/_, _%_, _≤_, _<_, min}
 use mathlib.Core.Bool.{Bool, true, false, cond}
 use mathlib.Core.List.{List, [], _∷_, _++_, append-nil}
 use mathlib.Core.Path.{_≡_, refl, sym, ap, _∙_}
-use native.Mathlib.Nat.{add-suc, div-one, div-div-eq-div-mul, mod-lt, mul-comm, pow-suc, suc-min-suc, zero-min}
-use native.Mathlib.Numerals.{add-one}
+use native.Mathlib.Nat.{min-zero, mod-lt, suc-min-suc, zero-min}
 use native.Mathlib.Omega.{arith}
+use lib.Bits.{bitAnd, and-step, and-self}
 use lib.Count.{trailingZeros, under}
 use lib.Dec.{eqb, lit<}
-use lib.ListN.{length, take, drop, getD, set, length-append, length-drop, drop-of-length-le}
-use lib.Seq.{append-snoc, drop-drop, getD-drop, take-nil}
+use lib.ListN.{length, take, drop, getD, set, length-append, drop-of-length-le}
+use lib.Seq.{append-snoc, take-nil}
 use borrow.Author.Tests.{eq-eqb, ne-eqb}
 use Rattle.versions.specs.Table.{elem, placeOf}
 use Rattle.versions.proofs.Lists.{drop-next}
 use Rattle.attempt.specs.Attempt.{over}
 use Rattle.attempt.specs.OwnList.{keepIf, members, wordOf}
+use Rattle.attempt.proofs.OwnLists.{length-members}
 use Rattle.attempt.proofs.Padded.{push-over}
 
 -- A count past the array counts as the whole array
@@ -70,28 +71,49 @@ pub first-is-not : (v x : ℕ) (xs : List ℕ) → (x ≡ v → ⊥) → elem v 
 unfolding elem
 first-is-not v x xs e = rw (ne-eqb _ _ e)
 
--- The members by a word whose k lowest bits are not set. The bit after them is set: the entry at place k comes first
+-- A word without its lowest set bit, in halves
 
-halved-first : (w k : ℕ) → w / 2 ^ suc k ≡ w / 2 / 2 ^ k
-halved-first w k = ap (λ (n : ℕ). w / n) (pow-suc 2 k ∙ mul-comm (2 ^ k) 2) ∙ sym (div-div-eq-div-mul w 2 (2 ^ k))
+less : ℕ → ℕ
+less w = bitAnd w (w - 1)
 
+less-even : (w : ℕ) → w % 2 ≡ 0 → less w ≡ less (w / 2) * 2
+unfolding less
+less-even w e =
+    let half : (w - 1) / 2 ≡ w / 2 - 1 = omega arith in
+    rw (and-step w (w - 1), half, e, zero-min ((w - 1) % 2)) (omega arith)
+
+less-odd : (w : ℕ) → w % 2 ≡ 1 → less w ≡ w / 2 * 2
+unfolding less
+less-odd w e =
+    let half : (w - 1) / 2 ≡ w / 2 = omega arith in
+    let even : (w - 1) % 2 ≡ 0 = omega arith in
+    rw (and-step w (w - 1), half, even, and-self (w / 2), min-zero (w % 2)) (omega arith)
+
+-- The members by a word whose lowest set bit is at place k: the entry there comes first, then those by the rest of the
+-- word
 members-first : (bits w : ℕ) (ys : List ℕ) → trailingZeros bits w < bits → trailingZeros bits w < length ys →
-    members w ys ≡ getD ys (trailingZeros bits w) 0 ∷ members (w / 2 ^ trailingZeros bits w / 2) (drop (suc (trailingZeros bits w)) ys)
+    members w ys ≡ getD ys (trailingZeros bits w) 0 ∷ members (less w) ys
 unfolding members trailingZeros
 members-first zero w ys h l = absurd (omega arith)
 members-first (suc bits) w [] h l = absurd (omega arith)
-members-first (suc bits) w (y ∷ ys) h l = go (w % 2) (mod-lt w (lit< tt)) h l (members-first bits (w / 2) ys)
+members-first (suc bits) w (y ∷ ys) h l = go (w % 2) refl (mod-lt w (lit< tt)) h l (members-first bits (w / 2) ys)
   where
     k : ℕ
     k = trailingZeros bits (w / 2)
 
-    go : (r : ℕ) → r < 2 → under r k < suc bits → under r k < suc (length ys) →
-        (k < bits → k < length ys → members (w / 2) ys ≡ getD ys k 0 ∷ members (w / 2 / 2 ^ k / 2) (drop (suc k) ys)) →
+    go : (r : ℕ) → w % 2 ≡ r → r < 2 → under r k < suc bits → under r k < suc (length ys) →
+        (k < bits → k < length ys → members (w / 2) ys ≡ getD ys k 0 ∷ members (less (w / 2)) ys) →
         keepIf (eqb r 1) y (members (w / 2) ys) ≡
-        getD (y ∷ ys) (under r k) 0 ∷ members (w / 2 ^ under r k / 2) (drop (suc (under r k)) (y ∷ ys))
-    go zero b h l ih = rw (halved-first w k) (ih (omega arith) (omega arith))
-    go (suc zero) b h l ih = rw (div-one w)
-    go (suc (suc r)) b h l ih = absurd (omega arith)
+        getD (y ∷ ys) (under r k) 0 ∷ keepIf (eqb (less w % 2) 1) y (members (less w / 2) ys)
+    go zero e b h l ih =
+        let even : less (w / 2) * 2 % 2 ≡ 0 = omega arith in
+        let half : less (w / 2) * 2 / 2 ≡ less (w / 2) = omega arith in
+        rw (less-even w e, even, half) (ih (omega arith) (omega arith))
+    go (suc zero) e b h l ih =
+        let even : w / 2 * 2 % 2 ≡ 0 = omega arith in
+        let half : w / 2 * 2 / 2 ≡ w / 2 = omega arith in
+        rw (less-odd w e, even, half)
+    go (suc (suc r)) e b h l ih = absurd (omega arith)
 
 -- or there is no entry at place k: no entry is a member
 members-none : (bits w : ℕ) (ys : List ℕ) → length ys ≤ trailingZeros bits w → members w ys ≡ []
@@ -106,50 +128,57 @@ members-none (suc bits) w (y ∷ ys) h = go (w % 2) (mod-lt w (lit< tt)) h (memb
     go (suc zero) b h ih = absurd (omega arith)
     go (suc (suc r)) b h ih = absurd (omega arith)
 
--- What a walk has collected at place i: the entries so far, over what was found, and that the rest adds what is missing
-pub record Collected (word : ℕ) (table found places : List ℕ) (count rest i : ℕ) : Type 0 where
+-- What a walk has collected: the entries so far, over what was found, and that the rest of the word adds what is missing
+pub record Collected (word : ℕ) (table found places : List ℕ) (count rest : ℕ) : Type 0 where
   pub done : List ℕ
   pub placed : places ≡ over done found
   pub counted : count ≡ length done
-  pub bounded : count ≤ i
-  pub whole : done ++ members rest (drop i table) ≡ members word table
+  pub whole : done ++ members rest table ≡ members word table
 
-pub collected-none : (word : ℕ) (table found : List ℕ) → Collected word table found found 0 word 0
-collected-none word table found =
-    record { done = []; placed = refl; counted = refl; bounded = omega arith; whole = refl }
+pub collected-none : (word : ℕ) (table found : List ℕ) → Collected word table found found 0 word
+collected-none word table found = record { done = []; placed = refl; counted = refl; whole = refl }
 
-module _ (word : ℕ) (xs found places : List ℕ) (count rest i : ℕ) (c : Collected word xs found places count rest i) where
-  -- one entry more: past the bits that are not set, the one at the next that is
-  module _ (bits : ℕ) where
-    abbrev skipped : ℕ
-    skipped = trailingZeros bits rest
+module _ (word : ℕ) (xs found places : List ℕ) (count rest bits : ℕ) (c : Collected word xs found places count rest) where
+  abbrev lowest : ℕ
+  lowest = trailingZeros bits rest
 
-    pub collected-one : skipped < bits → i + skipped < length xs → i < length found →
-        Collected word xs found (set places count (getD xs (i + skipped) 0)) (count + 1) (rest / 2 ^ skipped / 2) (i + skipped + 1)
-    collected-one b h room =
-        let x = getD xs (i + skipped) 0 in
+  abbrev next : ℕ
+  next = getD xs lowest 0
+
+  -- one entry more, that of the lowest set bit
+  module _ (b : lowest < bits) (h : lowest < length xs) where
+    with-next : (c .done ++ (next ∷ [])) ++ members (less rest) xs ≡ members word xs
+    with-next =
+        append-snoc (c .done) next (members (less rest) xs) ∙
+        ap (λ (l : List ℕ). c .done ++ l) (sym (members-first bits rest xs b h)) ∙
+        c .whole
+
+    -- there is a place for it
+    pub room : length xs ≤ length found → count < length found
+    room fits =
+        let all : length ((c .done ++ (next ∷ [])) ++ members (less rest) xs) ≡ length (members word xs) = ap length with-next in
+        let some = length-append (c .done ++ (next ∷ [])) (members (less rest) xs) in
+        let one = length-append (c .done) (next ∷ []) in
+        let most = length-members word xs in
         let e = c .counted in
-        let l = c .bounded in
-        let left = length-drop i xs in
-        let next : members rest (drop i xs) ≡ x ∷ members (rest / 2 ^ skipped / 2) (drop (i + skipped + 1) xs) =
-        members-first bits rest (drop i xs) b (omega arith) ∙
-        rw (getD-drop i xs skipped 0, drop-drop (suc skipped) i xs, add-one (i + skipped), add-suc i skipped) in
+        omega arith
+
+    pub collected-one : length xs ≤ length found →
+        Collected word xs found (set places count next) (count + 1) (bitAnd rest (rest - 1))
+    unfolding less
+    collected-one fits =
+        let e = c .counted in
         record {
-          done = c .done ++ (x ∷ []);
-          placed = rw (c .placed) (push-over found (c .done) count x (sym e) (omega arith));
-          counted = rw (length-append (c .done) (x ∷ []), e);
-          bounded = omega arith;
-          whole =
-              append-snoc (c .done) x (members (rest / 2 ^ skipped / 2) (drop (i + skipped + 1) xs)) ∙
-              ap (λ (l : List ℕ). c .done ++ l) (sym next) ∙
-              c .whole;
+          done = c .done ++ (next ∷ []);
+          placed = rw (c .placed) (push-over found (c .done) count next (sym e) (room fits));
+          counted = rw (length-append (c .done) (next ∷ []), e);
+          whole = with-next;
         }
 
-    -- no entry more
-    pub collected-all : length xs ≤ i + skipped → (count ≡ length (members word xs)) × (places ≡ over (members word xs) found)
-    collected-all h =
-        let left = length-drop i xs in
-        let none = members-none bits rest (drop i xs) (omega arith) in
-        let all : c .done ≡ members word xs =
-        sym (append-nil (c .done)) ∙ ap (λ (l : List ℕ). c .done ++ l) (sym none) ∙ c .whole in
-        (c .counted ∙ ap length all, c .placed ∙ ap (λ (l : List ℕ). over l found) all)
+  -- no entry more
+  pub collected-all : length xs ≤ lowest → (count ≡ length (members word xs)) × (places ≡ over (members word xs) found)
+  collected-all h =
+      let none = members-none bits rest xs h in
+      let all : c .done ≡ members word xs =
+      sym (append-nil (c .done)) ∙ ap (λ (l : List ℕ). c .done ++ l) (sym none) ∙ c .whole in
+      (c .counted ∙ ap length all, c .placed ∙ ap (λ (l : List ℕ). over l found) all)

@@ -38,18 +38,15 @@ pub fn put_members(table: &[u32], word: u64, places: &mut [u32; MAX_TABLE]) -> u
     let count = cut(table.len(), room_of(*places));
     let mut found = 0;
     let mut rest = word;
-    let mut i = 0;
-    while i < count {
-        // Past the bits that are not set, up to the next that is.
-        let skipped = u64::trailing_zeros(rest) as usize;
-        if count - i <= skipped {
+    while 0 < rest {
+        let lowest = u64::trailing_zeros(rest) as usize;
+        if count <= lowest {
             return found;
         }
-        i += skipped;
-        places[found] = table[i];
+        places[found] = table[lowest];
         found += 1;
-        rest = (rest >> skipped) / 2;
-        i += 1;
+        // Without its lowest bit.
+        rest = rest & (rest - 1);
     }
     found
 }

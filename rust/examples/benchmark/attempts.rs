@@ -165,12 +165,29 @@ fn starts(table: &mut Table) {
                 .attempted
             ),
         );
-        table.row(
-            &format!("own list, {} entries", versions.len()),
-            calls!(opaque(&both.library.0).own_list().len()),
-            calls!(opaque(&both.plain.0).own_list().len()),
-        );
+        own_list_row(table, &both, versions.len());
     }
+    // The longest own list: every entry of a full table.
+    let last = full.0[MAX_TABLE - 1];
+    let all = |to: &u32| Pair {
+        from: last,
+        to: *to,
+    };
+    let pairs: Vec<Pair> = full.0[..MAX_TABLE - 1].iter().map(all).collect();
+    let both = Both::start(&full.0, &pairs, last, destination, source);
+    own_list_row(table, &both, MAX_TABLE);
+}
+
+fn own_list_row(table: &mut Table, both: &Both, entries: usize) {
+    table.row(
+        &format!(
+            "own list of {}, {} entries",
+            both.library.0.own_list().len(),
+            entries
+        ),
+        calls!(opaque(&both.library.0).own_list().len()),
+        calls!(opaque(&both.plain.0).own_list().len()),
+    );
 }
 
 fn copy_row(table: &mut Table, begun: &Both) {
