@@ -324,6 +324,7 @@ uint32_t qv_event(struct qv_attempt *attempt, uint32_t kind, uint32_t value, con
 /*
  * The own list of an attempt: every table entry that is the attempted version or is paired from
  * it, in table order. It goes into the client's Version Information as Available Versions.
+ * `versions` has QV_MAX_TABLE places; neither it nor *count lies in the record, which is only read.
  * Refusal: 255 (see struct qv_attempt), which leaves versions and count as found.
  * Else: *count versions; places past them keep their values.
  */

@@ -10,7 +10,8 @@ use Rattle.attempt.specs.declared.End.{End}
 use Rattle.attempt.specs.declared.End.the-variants.{Open, Completed, Closed}
 use Rattle.attempt.specs.declared.OwnList.{OwnList}
 
--- A list put over the front of what was found; the places past it keep their values
+-- A list put over the front of what was found; the places past it keep their values. It is what a buffer holds after an
+-- answer (`leaves`, crates/refusals/specs/Written.antt); over zeros it is `padded`
 abbrev pub over : List ℕ → List ℕ → List ℕ
 over xs found = xs ++ drop (length xs) found
 

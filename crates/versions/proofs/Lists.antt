@@ -74,7 +74,7 @@ module _ (xs : List ℕ) (i : ℕ) where
   unfolding entriesKeepRule
   table-end h = rw (drop-of-length-le xs h)
 
--- "A table of versions has 1 to 64 entries"
+-- The count of a table that keeps its rule
 pub table-counts : (t : List ℕ) → tableKeepsRule t ≡ true → (1 ≤ length t) × (length t ≤ maxTable)
 unfolding tableKeepsRule
 table-counts t h =

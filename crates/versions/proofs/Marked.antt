@@ -20,7 +20,7 @@ use Rattle.versions.proofs.Lists.{table-counts}
 use Rattle.versions.proofs.Repeated.{or-swap}
 
 -- A word has a bit for each entry of a table that keeps its rule
-table-in-word : maxTable ≤ wordBits
+pub table-in-word : maxTable ≤ wordBits
 table-in-word = omega arith
 
 pub word-of-all : (table : List ℕ) → tableKeepsRule table ≡ true → take wordBits table ≡ table

@@ -21,8 +21,8 @@ unfoldable pub eachPairKeepsRule : List (List ℕ) → Bool
 eachPairKeepsRule [] = true
 eachPairKeepsRule (pair ∷ pairs) = pairKeepsRule pair && eachPairKeepsRule pairs
 
--- Document 01, with the number of document 02 (C-14): "A table of compatible pairs (from, to) has 0 to 1,024 pairs, no
--- member 0 or reserved, no pair of equal members; a repeated pair is harmless"
+-- Document 01: "A table of compatible pairs (from, to) has 0 to 64 pairs, no member 0 or reserved, no pair of equal
+-- members; a repeated pair is harmless". Document 02, C-14: "pairs from 64 to 1,024"
 unfoldable pub pairsKeepRule : List (List ℕ) → Bool
 pairsKeepRule pairs = leb (length pairs) maxPairs && eachPairKeepsRule pairs
 

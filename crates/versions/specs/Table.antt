@@ -22,7 +22,7 @@ unfoldable pub entriesKeepRule : List ℕ → Bool
 entriesKeepRule [] = true
 entriesKeepRule (v ∷ vs) = (usable v && not (elem v vs)) && entriesKeepRule vs
 
--- Document 01, with the number of document 02 (C-14): "A table of versions has 1 to 64 entries, none 0, none reserved,
--- none twice; its order is preference, best first"
+-- Document 01: "A table of versions has 1 to 16 entries, none 0, none reserved, none twice; its order is preference,
+-- best first". Document 02, C-14: "Tables go from 16 to 64 entries"
 unfoldable pub tableKeepsRule : List ℕ → Bool
 tableKeepsRule table = leb 1 (length table) && (leb (length table) maxTable && entriesKeepRule table)

@@ -13,12 +13,14 @@ abbrev pub bit : Bool → ℕ
 bit true = 1
 bit false = 0
 
--- The word of the table entries that a test holds of
+-- The word of the table entries that a test holds of. Of this and the next, private functions promise; no public promise
+-- names them
 unfoldable pub wordWhere : (ℕ → Bool) → List ℕ → ℕ
 wordWhere test [] = 0
 wordWhere test (v ∷ table) = bit (test v) + 2 * wordWhere test table
 
--- The word of the table entries that are v or are paired from it
+-- The word of the table entries that are v or are paired from it. Of the client's table it is `wordFor`
+-- (crates/attempt/specs/OwnList.antt), by `word-is` (crates/client_start/proofs/Rows.antt)
 abbrev pub wordFrom : List ℕ → List (List ℕ) → ℕ → ℕ
 wordFrom table pairs v = wordWhere (λ t. eqb t v || paired pairs v t) table
 

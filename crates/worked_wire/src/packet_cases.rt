@@ -8,6 +8,8 @@ use versions::MAX_TABLE;
 
 // The bytes of the longest packet: two of the longest connection IDs, a full table offered.
 const LONGEST: usize = 7 + 2 * MAX_CONNECTION_ID + VERSION_BYTES * MAX_TABLE;
+// One entry more than a table may have.
+const ENTRIES: usize = MAX_TABLE + 1;
 
 pub(crate) fn all() {
     whole_case();
@@ -52,25 +54,39 @@ pub(crate) fn padded_case() -> [u8; MIN_ANSWERED_DATAGRAM] {
 // packet.
 fn longest() {
     let datagram = [255u8; MIN_ANSWERED_DATAGRAM];
-    let offered = full_table();
+    let offered = counted();
     let mut buffer = [0u8; LONGEST];
     packet_count(
         b"packet for connection IDs of 255 bytes, a full table offered: ",
+        &datagram,
+        most(&offered),
+        &mut buffer,
+    );
+    packet_count(
+        b"packet for the same, a table with one entry more offered: ",
         &datagram,
         &offered,
         &mut buffer,
     );
 }
 
-// A table of as many entries as one may have: 1, 2, 3 and so on.
-fn full_table() -> [u32; MAX_TABLE] {
-    let mut table = [0u32; MAX_TABLE];
+// The versions 1, 2, 3 and so on, one more than a table may have.
+fn counted() -> [u32; ENTRIES] {
+    let mut versions = [0u32; ENTRIES];
     let mut version = 0u32;
     let mut i = 0;
-    while i < MAX_TABLE {
+    while i < ENTRIES {
         version += 1;
-        table[i] = version;
+        versions[i] = version;
         i += 1;
     }
-    table
+    versions
+}
+
+// As many of them as a table may have.
+fn most(versions: &[u32]) -> &[u32] {
+    if MAX_TABLE < versions.len() {
+        return &versions[..MAX_TABLE];
+    }
+    versions
 }

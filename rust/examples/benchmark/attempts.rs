@@ -112,7 +112,7 @@ impl Both {
     }
 }
 
-/// A table, and as many pairs, each entry to as many of the ones that follow it.
+/// `entries` versions and `count` pairs, `count / entries` of them from each entry to those after it.
 fn table_and_pairs(entries: usize, count: usize) -> (Vec<u32>, Vec<Pair>) {
     let versions: Vec<u32> = (100..).take(entries).collect();
     let each = (count / entries).max(1);
@@ -131,7 +131,7 @@ fn full() -> (Vec<u32>, Vec<Pair>) {
 
 fn starts(table: &mut Table) {
     let (destination, source) = (&[7; 8][..], &[8; 8][..]);
-    // The second is the longest start of the base, the third the longest of now.
+    // The second has 16 entries and 64 pairs, the limits before C-14, the third those of now.
     let (base, full) = (table_and_pairs(16, 64), full());
     let small = (&[14, 12, 10][..], &[][..], 12);
     let middle = (&base.0[..], &base.1[..], base.0[7]);

@@ -73,19 +73,19 @@ fn servers(table: &mut Table) {
     let bytes = &information(chosen, &available)[..];
     for (name, accepted, pairs, answer) in [
         (
-            "each version to the 16 that follow",
+            &format!("each version to the {} that follow", each),
             versions,
             paired(&|k| versions[k / each], &following),
             Decision::Use(chosen),
         ),
         (
-            "each from Chosen to a version accepted, none Available",
+            &"each from Chosen to a version accepted, none Available".to_string(),
             without,
             paired(&|_| chosen, &|k| without[k % without.len()]),
             Decision::Negotiate,
         ),
         (
-            "each from Chosen, none to a version accepted",
+            &"each from Chosen, none to a version accepted".to_string(),
             without,
             paired(&|_| chosen, &|k| others[k]),
             Decision::Negotiate,

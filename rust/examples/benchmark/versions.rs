@@ -1,12 +1,14 @@
-//! Rows of the tests that a version and a table go through: reserved or not, and the table's rule.
+//! Rows of the tests that versions, tables and pairs go through: reserved or not, the table's rule, the
+//! pairs' rule.
 
-use crate::measure::{calls, opaque, Table};
-use crate::plain;
-use quic_version::{is_reserved, is_table, MAX_TABLE};
+use crate::measure::{calls, grouped, opaque, Table};
+use crate::{plain, Pair};
+use quic_version::{are_pairs, is_reserved, is_table, MAX_PAIRS, MAX_TABLE};
 
 pub fn rows(table: &mut Table) {
     reserved(table);
     tables(table);
+    pairs(table);
 }
 
 fn reserved(table: &mut Table) {
@@ -32,4 +34,19 @@ fn tables(table: &mut Table) {
             calls!(plain::is_table(opaque(versions))),
         );
     }
+}
+
+/// As many pairs as there may be, which keep their rule.
+fn pairs(table: &mut Table) {
+    let pair = |k| Pair {
+        from: 100 + k,
+        to: 101 + k,
+    };
+    let pairs = &(0..MAX_PAIRS as u32).map(pair).collect::<Vec<Pair>>()[..];
+    assert!(are_pairs(pairs) && plain::are_pairs(pairs));
+    table.row(
+        &format!("pairs' rule, {} pairs", grouped(MAX_PAIRS)),
+        calls!(are_pairs(opaque(pairs))),
+        calls!(plain::are_pairs(opaque(pairs))),
+    );
 }

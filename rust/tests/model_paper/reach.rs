@@ -99,22 +99,54 @@ fn reach_of_the_fewest_bytes() {
     over.holds(&[0, 21, 22, 23, 24, 25, 26], 20);
 }
 
-/// Tables and pairs on both sides of their limits, alone and in the calls that take them.
+/// How often each size came up.
+#[derive(Default)]
+struct Sizes(BTreeMap<usize, usize>);
+
+impl Sizes {
+    fn note<T>(&mut self, items: &[T]) {
+        *self.0.entry(items.len()).or_insert(0) += 1;
+    }
+
+    /// Each of these sizes came up so often, and none above the last of them.
+    #[track_caller]
+    fn hold(&self, sizes: &[usize], least: usize) {
+        for size in sizes {
+            let seen = self.0.get(size).copied().unwrap_or(0);
+            assert!(seen >= least, "{} of size {}", seen, size);
+        }
+        assert_eq!(self.0.keys().last(), sizes.last());
+    }
+}
+
+/// Tables and pairs on both sides of their limits, alone and in each call that takes them.
 #[test]
 fn reach_of_the_limits() {
     let mut random = Random::new(4);
-    let (mut tables, mut pairs) = <(BTreeMap<usize, usize>, BTreeMap<usize, usize>)>::default();
-    let (mut started, mut decided) = ([0; 2], [0; 2]);
+    let mut tables: [Sizes; 6] = Default::default();
+    let mut pairs: [Sizes; 3] = Default::default();
+    let (mut started, mut decided) = (0, 0);
     for _ in 0..20_000 {
         let (start, server) = (random.start_call(), random.server_call());
-        for table in [random.table(), start.table.clone(), server.accepted.clone()] {
-            *tables.entry(table.len()).or_insert(0) += 1;
+        let drawn = [
+            &random.table(),
+            &random.choose_call().0,
+            &random.negotiation_call().offered,
+            &start.table,
+            &server.readable,
+            &server.accepted,
+        ];
+        for (sizes, table) in tables.iter_mut().zip(drawn) {
+            sizes.note(table);
         }
-        for pairs_of in [random.pairs(), start.pairs.clone(), server.pairs.clone()] {
-            *pairs.entry(pairs_of.len()).or_insert(0) += 1;
+        for (sizes, drawn) in pairs
+            .iter_mut()
+            .zip([&random.pairs(), &start.pairs, &server.pairs])
+        {
+            sizes.note(drawn);
         }
         let full = (start.table.len(), start.pairs.len()) == (MAX_TABLE, MAX_PAIRS);
-        started[usize::from(start.start().is_ok())] += usize::from(full);
+        started += usize::from(full && start.start().is_ok());
         let answer = server_choice(
             &server.readable,
             &server.accepted,
@@ -123,28 +155,17 @@ fn reach_of_the_limits() {
             server.information.as_deref(),
         );
         let full = (server.accepted.len(), server.pairs.len()) == (MAX_TABLE, MAX_PAIRS);
-        decided[usize::from(answer.is_ok())] += usize::from(full);
+        decided += usize::from(full && answer.is_ok());
     }
-    let often = |counts: &BTreeMap<usize, usize>, size, least| {
-        let seen = counts.get(&size).copied().unwrap_or(0);
-        assert!(seen >= least, "{} of size {}", seen, size);
-    };
-    for size in 0..=66 {
-        often(&tables, size, 50);
+    for sizes in &tables {
+        sizes.hold(&(0..=66).collect::<Vec<usize>>(), 10);
+        sizes.hold(&[0, 1, 63, 64, 65, 66], 50);
     }
-    for size in [0, 1, 63, 64, 65, 66] {
-        often(&tables, size, 400);
+    for sizes in &pairs {
+        sizes.hold(&[0, 1, 1_023, 1_024, 1_025, 1_026], 50);
     }
-    for size in [0, 1, 1_023, 1_024, 1_025, 1_026] {
-        often(&pairs, size, 400);
-    }
-    assert!(*tables.keys().last().unwrap() == 66 && *pairs.keys().last().unwrap() == 1_026);
-    // Full tables with all pairs: refused for another reason, and not refused.
-    assert!(
-        started[1] >= 20 && decided[1] >= 20,
-        "{:?}",
-        (started, decided)
-    );
+    // Full tables with all pairs that are not refused.
+    assert!(started >= 20 && decided >= 20, "{} {}", started, decided);
 }
 
 /// Event lists: their reach, and the step by step answer against the

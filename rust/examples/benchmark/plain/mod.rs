@@ -8,7 +8,7 @@ mod wire;
 
 pub use attempts::PlainAttempt;
 pub use choices::{choose, choose_from_bytes, server_choice};
-pub use versions::{is_reserved, is_table};
+pub use versions::{are_pairs, is_reserved, is_table};
 pub use wire::{read_header, read_information, write_information, write_version_negotiation};
 
 fn number(bytes: &[u8]) -> u32 {

@@ -51,7 +51,7 @@ fn blank() -> Record {
 }
 
 /// The own list of a record; places past its count are left as found.
-fn check_own_list(record: &Record, own: &[u32]) -> Result<(), String> {
+pub(super) fn check_own_list(record: &Record, own: &[u32]) -> Result<(), String> {
     for found in FOUND {
         let (mut versions, mut count) = ([found; MAX_TABLE], found as usize);
         let mut left = versions;

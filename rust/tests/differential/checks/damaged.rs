@@ -1,7 +1,7 @@
 //! Records that no attempt has and kinds that no event has: 255, and all is left as found; and what
 //! an event does to any record value.
 
-use super::attempts::raw_event;
+use super::attempts::{check_own_list, raw_event};
 use super::{paired, same, Compared, FOUND};
 use crate::model::{Event, MAX_ID, MAX_TABLE};
 use crate::raw::{self, Record};
@@ -179,9 +179,18 @@ pub fn check_any_record(found: &Record, kind: u32, value: u32, bytes: &[u8]) -> 
     } else if ended {
         same("closed with", record.end_value, answer)?;
     }
-    let (mut own, mut count) = ([0; MAX_TABLE], 0);
-    let number = raw::own_list(&record, &mut own, &mut count);
-    let in_table = own[..count].iter().all(|v| table_of(&record).contains(v));
-    same("own list", (number, in_table), (0, true))?;
+    check_own_list(&record, &own_list_of(&record))?;
     Ok(answer)
+}
+
+/// The own list of any record: the entries whose bits are set in the row of the attempted version's
+/// first place.
+fn own_list_of(record: &Record) -> Vec<u32> {
+    let table = table_of(record);
+    let place = table.iter().position(|v| *v == record.attempted).unwrap();
+    let is_set = |at: &usize| record.rows[place] >> at & 1 == 1;
+    (0..table.len())
+        .filter(is_set)
+        .map(|at| table[at])
+        .collect()
 }

@@ -54,10 +54,12 @@ fn a_fault_at_each_place_of_a_table() {
 /// Every call that takes pairs, with these: 43 where they break their rule.
 fn check_pairs(pairs: &[(u32, u32)]) {
     let table = versions(MAX_TABLE);
-    let information = random::in_fours(&[100, 101, 163, 100]);
+    let listed: Vec<u32> = [100, 100].iter().chain(&table).copied().collect();
+    let information = random::in_fours(&listed);
     check_are_pairs(pairs).unwrap();
     check_start(&table, pairs, 100, &[], &[]).unwrap();
-    check_server_choice(&table, &table, pairs, 100, 1, &information).unwrap();
+    // The server does not accept Chosen, 100, so that the pairs decide.
+    check_server_choice(&table, &table[1..], pairs, 100, 1, &information).unwrap();
 }
 
 #[test]
@@ -65,8 +67,11 @@ fn numbers_of_pairs() {
     let few = [0, 1, 2, 63, 64, 65];
     let many = MAX_PAIRS - 2..=MAX_PAIRS + 2;
     for count in few.into_iter().chain(many) {
-        let pair = |k: usize| (100 + k as u32 % 64, 100 + (k as u32 + 1) % 64);
-        let mut pairs: Vec<(u32, u32)> = (0..count).map(pair).collect();
+        // The last pair is the only one from 100, and leads to the last entry.
+        let mut pairs = vec![(101, 102); count];
+        if let Some(last) = pairs.last_mut() {
+            *last = (100, 100 + MAX_TABLE as u32 - 1);
+        }
         check_pairs(&pairs);
         // A fault in the first place, and in the last.
         for place in [0, count.saturating_sub(1)].into_iter().take(count) {
@@ -96,9 +101,11 @@ fn every_bit_of_the_words() {
                 check_start(&table, &[(*from, *to)], *from, &[], &[]).unwrap();
             }
         }
-        // The server does not accept Chosen, 99, so that the bit decides.
+        // The server does not accept Chosen, 99, and all that it accepts is available, so that the
+        // bit alone decides.
+        let listed: Vec<u32> = [99, 99].iter().chain(&table).copied().collect();
+        let information = random::in_fours(&listed);
         for to in &table {
-            let information = random::in_fours(&[99, *to, 99]);
             check_server_choice(&[99], &table, &[(99, *to)], 99, 1, &information).unwrap();
         }
     }

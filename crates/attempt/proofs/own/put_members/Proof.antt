@@ -3,6 +3,7 @@
 use Prim.Native.Nat.{ℕ, _-_, _<_, _≤_}
 use mathlib.Core.List.{List}
 use mathlib.Core.Path.{_≡_}
+use native.Mathlib.Nat.{le-trans, lt-of-lt-of-le}
 use native.Mathlib.Omega.{arith}
 use borrow.Author.Needs.{needs}
 use denote.Ref.{now}
@@ -12,6 +13,7 @@ use lib.ListN.{length, take, length-take}
 use lib.Seq.{getD-take}
 use Rattle.versions.specs.Limits.{maxTable}
 use Rattle.versions.specs.Words.{wordBits}
+use Rattle.versions.proofs.Marked.{table-in-word}
 use Rattle.attempt.specs.Attempt.{over}
 use Rattle.attempt.specs.OwnList.{members}
 use Rattle.attempt.proofs.Walks.{Collected, collected-none, room, collected-one, collected-all}
@@ -74,7 +76,7 @@ lowest-within : (c : tie.Else1 Inv-loop μ-loop) →
 lowest-within c = omega (arith, c .if1 .left, c .before .before .loop .inv .0)
 
 bit-within : (c : tie.Else1 Inv-loop μ-loop) → trailingZeros wordBits (c .before .before .loop .rest) < wordBits
-bit-within c = omega (arith, lowest-within c, few (c .before .before))
+bit-within c = lt-of-lt-of-le (lowest-within c) (le-trans (few (c .before .before)) table-in-word)
 
 -- and there is a place for that entry
 found-within : (c : tie.Else1 Inv-loop μ-loop) → c .before .before .loop .found < maxTable
@@ -130,7 +132,7 @@ returns-2 : tie.Need-returns-2 Inv-loop μ-loop
 returns-2 c =
     let at = c .before in
     let none : at .loop .rest ≡ 0 = omega (arith, c .loop-test .left) in
-    all-collected at (rw (none, trailing-of-zero wordBits) (few at))
+    all-collected at (rw (none, trailing-of-zero wordBits) (le-trans (few at) table-in-word))
 
 pub put-members-spec : {M : Type 1} → statement M
 put-members-spec =
