@@ -36,27 +36,51 @@ own-members r at e h p few =
     let all = length-take (r .«table_len») (r .table) in
     rw (take-all maxTable table (omega arith), e) (sym (own-at r h p))
 
--- What is known past each test
+-- Where the tests are passed: the marks fit, the counts fit, the place is found. The record at each of them
+abbrev marked : tie.Else2 → tie.Else1
+marked c = c .before .before
+
+abbrev sized : tie.After-place-of → tie.Else2
+sized c = c .before .before .before .before
+
 abbrev told : tie.After-marks-fit → Record
 told c = c .before .args .held
 
+abbrev told-sized : tie.Else2 → Record
+told-sized c = told (marked c .before)
+
+abbrev told-placed : tie.After-place-of → Record
+told-placed c = told-sized (sized c)
+
+-- What is known past each test
 marks : (c : tie.Else1) → marksFit (told (c .before)) ≡ true
 marks c = sym (c .before .marks-fit .ensures) ∙ not-false _ (c .if1 .left)
 
-counts : (c : tie.Else2) → countsFit (attemptOf (told (c .before .before .before))) ≡ true
+counts : (c : tie.Else2) → countsFit (attemptOf (told-sized c)) ≡ true
 counts c = sym (c .before .counts-fit .ensures) ∙ not-false _ (c .if2 .left)
 
 -- the count is within the array
-few : (c : tie.Else2) → told (c .before .before .before) .«table_len» ≤ maxTable
+few : (c : tie.Else2) → told-sized c .«table_len» ≤ maxTable
 unfolding attemptOf
-few c = counts-table (attemptOf (told (c .before .before .before))) (counts c)
+few c = counts-table (attemptOf (told-sized c)) (counts c)
 
-table-fits : (c : tie.Else2) → let r = told (c .before .before .before) in r .«table_len» ≤ length (r .table)
+table-fits : (c : tie.Else2) → told-sized c .«table_len» ≤ length (told-sized c .table)
 table-fits c =
-    let r = told (c .before .before .before) in
-    let wide : length (r .table) ≡ maxTable = search needs in
+    let wide : length (told-sized c .table) ≡ maxTable = search needs in
     let l = few c in
     omega arith
+
+-- how many entries the table has, and the attempted version's first place among them
+entries : (c : tie.After-place-of) → length (tableOf (attemptOf (told-placed c))) ≡ told-placed c .«table_len»
+unfolding attemptOf
+entries c =
+    let l = table-fits (sized c) in
+    let all = length-take (told-placed c .«table_len») (told-placed c .table) in
+    omega arith
+
+place-is : (c : tie.After-place-of) → c .place-of .result ≡ place (told-placed c)
+unfolding attemptOf
+place-is c = c .place-of .ensures
 
 marks-fit-requires : tie.Need-marks-fit-requires
 marks-fit-requires c κs = search needs
@@ -95,62 +119,47 @@ slice-aggregate-place-of c = let l = table-fits (c .before .before .before) in s
 place-of-requires : tie.Need-place-of-requires
 place-of-requires c κs = search needs
 
--- how many entries the table has, and the attempted version's first place among them
-entries : (c : tie.After-place-of) →
-    let r = told (c .before .before .before .before .before .before .before) in length (tableOf (attemptOf r)) ≡ r .«table_len»
-unfolding attemptOf
-entries c =
-    let r = told (c .before .before .before .before .before .before .before) in
-    let l = table-fits (c .before .before .before .before) in
-    let all = length-take (r .«table_len») (r .table) in
-    omega arith
-
-place-is : (c : tie.After-place-of) → c .place-of .result ≡ place (told (c .before .before .before .before .before .before .before))
-unfolding attemptOf
-place-is c = c .place-of .ensures
-
 no-list-requires-3 : tie.Need-no-list-requires-3
 no-list-requires-3 c κs = search needs
 
 returns-3 : tie.Need-returns-3
 returns-3 c =
     let at = c .before .before in
-    let kept = at .before .before .before .before in
-    let r = told (kept .before .before .before) in
     let e = entries at in
     let p = place-is at in
-    nothing r _ _ (no-place r (marks (kept .before .before)) (counts kept) (omega arith))
+    nothing (told-placed at) _ _
+    (no-place (told-placed at) (marks (marked (sized at))) (counts (sized at)) (omega arith))
     (c .no-list3 .ensures .0) (c .no-list3 .ensures .1)
 
 array-share-prefix-table-2 : tie.Need-array-share-prefix-table-2
-array-share-prefix-table-2 c = table-fits (c .before .before .before .before .before .before)
+array-share-prefix-table-2 c = table-fits (sized (c .before .before))
 
 slice-aggregate-put-members : tie.Need-slice-aggregate-put-members
-slice-aggregate-put-members c = let l = table-fits (c .before .before .before .before .before .before .before) in simp length-take (omega arith)
+slice-aggregate-put-members c =
+    let l = table-fits (sized (c .before .before .before)) in
+    simp length-take (omega arith)
 
 mul-put-members : tie.Need-mul-put-members
 mul-put-members c = search needs
 
 array-read-put-members : tie.Need-array-read-put-members
-array-read-put-members c =
-    let l = few (c .before .before .before .before .before .before .before) in
-    omega (arith, c .before .before .if3 .left, l)
+array-read-put-members c = omega (arith, c .before .before .if3 .left, few (sized (c .before .before .before)))
 
 put-members-requires : tie.Need-put-members-requires
 put-members-requires c κs = search needs
 
 returns-4 : tie.Need-returns-4
 returns-4 c =
-    let at = c .before .before .before .before .before in
-    let kept = at .before .before .before .before in
-    let r = told (kept .before .before .before) in
+    let past = c .before .before .before .before in
+    let at = past .before in
+    let r = told-placed at in
     let e = entries at in
     let p = place-is at in
-    let here : place r < length (tableOf (attemptOf r)) = omega (arith, c .before .before .before .before .if3 .left, e, p) in
-    let h = a-place r (marks (kept .before .before)) (counts kept) here in
-    let own = own-members r (at .place-of .result) p h here (few kept) in
+    let here : place r < length (tableOf (attemptOf r)) = omega (arith, past .if3 .left, e, p) in
+    let h = a-place r (marks (marked (sized at))) (counts (sized at)) here in
+    let own = own-members r (at .place-of .result) p h here (few (sized at)) in
     let put = c .put-members .ensures in
-    let found = now (kept .before .before .before .before .args .versions) in
+    let found = now (marked (sized at) .before .before .args .versions) in
     (sym h, (put .0 ∙ ap length own, put .1 ∙ ap (λ (l : List ℕ). over l found) own))
 
 pub put-own-spec : {M : Type 1} → statement M
