@@ -10,6 +10,7 @@ use borrow.Author.Tests.{eqb-true, not-false, not-true}
 use Rattle.refusals.specs.Rule.{Rule._when_, lowest, clear}
 use Rattle.refusals.proofs.Rules.{both-true, clear-append, lowest-any, lowest-clear}
 use Rattle.versions.specs.Table.{elem}
+use Rattle.versions.proofs.Members.{members-held}
 use Rattle.choosing.specs.Choice.{preferred}
 use Rattle.invariants.specs.Header.{listed}
 use Rattle.information.specs.Information.{chosenOf, availableOf, formRules}
@@ -26,7 +27,6 @@ use Rattle.attempt.specs.declared.End.{End}
 use Rattle.attempt.specs.declared.End.the-variants as end
 use Rattle.attempt.specs.declared.Event.{Event}
 use Rattle.attempt.specs.declared.Event.the-variants.{Datagram, PacketProcessed, Outcome}
-use Rattle.attempt.proofs.OwnLists.{members-held}
 use Rattle.attempt.proofs.Phases.{completes-clear, open-outcome}
 
 -- The version that an end mark says completed

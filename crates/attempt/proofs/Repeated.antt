@@ -8,6 +8,7 @@ use lib.Dec.{eqb}
 use lib.ListN.{length}
 use Rattle.versions.specs.Limits.{maxPairs}
 use Rattle.versions.specs.Pairs.{fromOf, toOf, paired}
+use Rattle.versions.proofs.Bits.{word-same, entries-same}
 use Rattle.versions.proofs.Repeated.{pair-repeated, rule-repeated}
 use Rattle.attempt.specs.OwnList.{mayBeAnswered, ownList, wordFor, rowsFor}
 use Rattle.attempt.specs.Start.{inputOf, startOf, opened}
@@ -21,13 +22,13 @@ module _ (ps qs : List (List ℕ)) (pair : List ℕ)
 
   pub own-list-repeated : (table : List ℕ) (attempted : ℕ) → ownList table (ps ++ pair ∷ qs) attempted ≡ ownList table (ps ++ qs) attempted
   unfolding ownList
-  own-list-repeated [] attempted = refl
-  own-list-repeated (v ∷ table) attempted = rw (same-answered attempted v, own-list-repeated table attempted)
+  own-list-repeated table attempted =
+      entries-same (mayBeAnswered (ps ++ pair ∷ qs) attempted) (mayBeAnswered (ps ++ qs) attempted) (same-answered attempted) table
 
   same-word : (table : List ℕ) (attempted : ℕ) → wordFor table (ps ++ pair ∷ qs) attempted ≡ wordFor table (ps ++ qs) attempted
   unfolding wordFor
-  same-word [] attempted = refl
-  same-word (v ∷ table) attempted = rw (same-answered attempted v, same-word table attempted)
+  same-word table attempted =
+      word-same (mayBeAnswered (ps ++ pair ∷ qs) attempted) (mayBeAnswered (ps ++ qs) attempted) (same-answered attempted) table
 
   same-rows : (vs table : List ℕ) → rowsFor vs table (ps ++ pair ∷ qs) ≡ rowsFor vs table (ps ++ qs)
   unfolding rowsFor

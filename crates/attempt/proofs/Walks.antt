@@ -1,21 +1,21 @@
 -- The walks over a table: at each place i the rest of the table answers for the whole.
-use Prim.Native.Nat.{ℕ, zero, suc, _+_, _-_, _*_, _/_, _%_, _≤_, _<_, min}
+use Prim.Native.Nat.{ℕ, zero, suc, _+_, _-_, _≤_, _<_, min}
 use mathlib.Core.Bool.{Bool, true, false, cond}
 use mathlib.Core.List.{List, [], _∷_, _++_, append-nil}
 use mathlib.Core.Path.{_≡_, refl, sym, ap, _∙_}
-use native.Mathlib.Nat.{min-zero, mod-lt, suc-min-suc, zero-min}
+use native.Mathlib.Nat.{suc-min-suc, zero-min}
 use native.Mathlib.Omega.{arith}
-use lib.Bits.{bitAnd, and-step, and-self}
-use lib.Count.{trailingZeros, under}
-use lib.Dec.{eqb, lit<}
-use lib.ListN.{length, take, drop, getD, set, length-append, drop-of-length-le}
+use lib.Bits.{bitAnd}
+use lib.Count.{trailingZeros}
+use lib.Dec.{eqb}
+use lib.ListN.{length, take, getD, set, length-append}
 use lib.Seq.{append-snoc, take-nil}
 use borrow.Author.Tests.{eq-eqb, ne-eqb}
 use Rattle.versions.specs.Table.{elem, placeOf}
-use Rattle.versions.proofs.Lists.{drop-next}
+use Rattle.versions.specs.Words.{members}
+use Rattle.versions.proofs.Members.{length-members, cleared, members-first, members-none}
 use Rattle.attempt.specs.Attempt.{over}
-use Rattle.attempt.specs.OwnList.{keepIf, members, wordOf}
-use Rattle.attempt.proofs.OwnLists.{length-members}
+use Rattle.attempt.specs.OwnList.{wordOf}
 use Rattle.attempt.proofs.Padded.{push-over}
 
 -- A count past the array counts as the whole array
@@ -48,20 +48,6 @@ word-nowhere (x ∷ xs) (w ∷ rows) v h = go (eqb x v) h (word-nowhere xs rows 
     go true h ih = absurd (omega arith)
     go false h ih = ih (omega arith)
 
--- `members`, with what is left of a word
-module _ (xs : List ℕ) (rest i : ℕ) where
-  pub bit-set : i < length xs → rest % 2 ≡ 1 → members rest (drop i xs) ≡ getD xs i 0 ∷ members (rest / 2) (drop (i + 1) xs)
-  unfolding members
-  bit-set h b = rw (drop-next xs i 0 h, eq-eqb _ _ b)
-
-  pub bit-clear : i < length xs → (rest % 2 ≡ 1 → ⊥) → members rest (drop i xs) ≡ members (rest / 2) (drop (i + 1) xs)
-  unfolding members
-  bit-clear h b = rw (drop-next xs i 0 h, ne-eqb _ _ b)
-
-  pub bits-end : length xs ≤ i → members rest (drop i xs) ≡ []
-  unfolding members
-  bits-end h = rw (drop-of-length-le xs h)
-
 -- The first of a list is the version, or it is not
 pub first-is : (v x : ℕ) (xs : List ℕ) → x ≡ v → elem v (x ∷ xs) ≡ true
 unfolding elem
@@ -70,63 +56,6 @@ first-is v x xs e = rw (eq-eqb _ _ e)
 pub first-is-not : (v x : ℕ) (xs : List ℕ) → (x ≡ v → ⊥) → elem v (x ∷ xs) ≡ elem v xs
 unfolding elem
 first-is-not v x xs e = rw (ne-eqb _ _ e)
-
--- A word without its lowest set bit, in halves
-
-less : ℕ → ℕ
-less w = bitAnd w (w - 1)
-
-less-even : (w : ℕ) → w % 2 ≡ 0 → less w ≡ less (w / 2) * 2
-unfolding less
-less-even w e =
-    let half : (w - 1) / 2 ≡ w / 2 - 1 = omega arith in
-    rw (and-step w (w - 1), half, e, zero-min ((w - 1) % 2)) (omega arith)
-
-less-odd : (w : ℕ) → w % 2 ≡ 1 → less w ≡ w / 2 * 2
-unfolding less
-less-odd w e =
-    let half : (w - 1) / 2 ≡ w / 2 = omega arith in
-    let even : (w - 1) % 2 ≡ 0 = omega arith in
-    rw (and-step w (w - 1), half, even, and-self (w / 2), min-zero (w % 2)) (omega arith)
-
--- The members by a word whose lowest set bit is at place k: the entry there comes first, then those by the rest of the
--- word
-members-first : (bits w : ℕ) (ys : List ℕ) → trailingZeros bits w < bits → trailingZeros bits w < length ys →
-    members w ys ≡ getD ys (trailingZeros bits w) 0 ∷ members (less w) ys
-unfolding members trailingZeros
-members-first zero w ys h l = absurd (omega arith)
-members-first (suc bits) w [] h l = absurd (omega arith)
-members-first (suc bits) w (y ∷ ys) h l = go (w % 2) refl (mod-lt w (lit< tt)) h l (members-first bits (w / 2) ys)
-  where
-    k : ℕ
-    k = trailingZeros bits (w / 2)
-
-    go : (r : ℕ) → w % 2 ≡ r → r < 2 → under r k < suc bits → under r k < suc (length ys) →
-        (k < bits → k < length ys → members (w / 2) ys ≡ getD ys k 0 ∷ members (less (w / 2)) ys) →
-        keepIf (eqb r 1) y (members (w / 2) ys) ≡
-        getD (y ∷ ys) (under r k) 0 ∷ keepIf (eqb (less w % 2) 1) y (members (less w / 2) ys)
-    go zero e b h l ih =
-        let even : less (w / 2) * 2 % 2 ≡ 0 = omega arith in
-        let half : less (w / 2) * 2 / 2 ≡ less (w / 2) = omega arith in
-        rw (less-even w e, even, half) (ih (omega arith) (omega arith))
-    go (suc zero) e b h l ih =
-        let even : w / 2 * 2 % 2 ≡ 0 = omega arith in
-        let half : w / 2 * 2 / 2 ≡ w / 2 = omega arith in
-        rw (less-odd w e, even, half)
-    go (suc (suc r)) e b h l ih = absurd (omega arith)
-
--- or there is no entry at place k: no entry is a member
-members-none : (bits w : ℕ) (ys : List ℕ) → length ys ≤ trailingZeros bits w → members w ys ≡ []
-unfolding members trailingZeros
-members-none bits w [] h = refl
-members-none zero w (y ∷ ys) h = absurd (omega arith)
-members-none (suc bits) w (y ∷ ys) h = go (w % 2) (mod-lt w (lit< tt)) h (members-none bits (w / 2) ys)
-  where
-    go : (r : ℕ) → r < 2 → suc (length ys) ≤ under r (trailingZeros bits (w / 2)) →
-        (length ys ≤ trailingZeros bits (w / 2) → members (w / 2) ys ≡ []) → keepIf (eqb r 1) y (members (w / 2) ys) ≡ []
-    go zero b h ih = ih (omega arith)
-    go (suc zero) b h ih = absurd (omega arith)
-    go (suc (suc r)) b h ih = absurd (omega arith)
 
 -- What a walk has collected: the entries so far, over what was found, and that the rest of the word adds what is missing
 pub record Collected (word : ℕ) (table found places : List ℕ) (count rest : ℕ) : Type 0 where
@@ -147,17 +76,17 @@ module _ (word : ℕ) (xs found places : List ℕ) (count rest bits : ℕ) (c : 
 
   -- one entry more, that of the lowest set bit
   module _ (b : lowest < bits) (h : lowest < length xs) where
-    with-next : (c .done ++ (next ∷ [])) ++ members (less rest) xs ≡ members word xs
+    with-next : (c .done ++ (next ∷ [])) ++ members (cleared rest) xs ≡ members word xs
     with-next =
-        append-snoc (c .done) next (members (less rest) xs) ∙
+        append-snoc (c .done) next (members (cleared rest) xs) ∙
         ap (λ (l : List ℕ). c .done ++ l) (sym (members-first bits rest xs b h)) ∙
         c .whole
 
     -- there is a place for it
     pub room : length xs ≤ length found → count < length found
     room fits =
-        let all : length ((c .done ++ (next ∷ [])) ++ members (less rest) xs) ≡ length (members word xs) = ap length with-next in
-        let some = length-append (c .done ++ (next ∷ [])) (members (less rest) xs) in
+        let all : length ((c .done ++ (next ∷ [])) ++ members (cleared rest) xs) ≡ length (members word xs) = ap length with-next in
+        let some = length-append (c .done ++ (next ∷ [])) (members (cleared rest) xs) in
         let one = length-append (c .done) (next ∷ []) in
         let most = length-members word xs in
         let e = c .counted in
@@ -165,7 +94,7 @@ module _ (word : ℕ) (xs found places : List ℕ) (count rest bits : ℕ) (c : 
 
     pub collected-one : length xs ≤ length found →
         Collected word xs found (set places count next) (count + 1) (bitAnd rest (rest - 1))
-    unfolding less
+    unfolding cleared
     collected-one fits =
         let e = c .counted in
         record {

@@ -12,6 +12,7 @@ use Rattle.choosing.specs.Choice.{choose, preferred}
 use Rattle.versions.specs.Pairs.{paired, pairKeepsRule, eachPairKeepsRule, pairsKeepRule}
 use Rattle.versions.specs.Table.{elem, entriesKeepRule, tableKeepsRule}
 use Rattle.versions.specs.Version.{reserved, usable}
+use Rattle.versions.specs.Words.{entriesWhere, wordWhere, members}
 use Rattle.lists.specs.Wire.{entries, listBytes}
 use Rattle.invariants.specs.Header.{isReadableNegotiation}
 use Rattle.information.specs.Information.{informationBytes}
@@ -20,7 +21,7 @@ use Rattle.attempt.specs.Attempt.{padded, ownOf}
 use Rattle.attempt.specs.Demand.{actedWith, firstOutcome, CompletedAgainst}
 use Rattle.attempt.specs.Events.{Handed, run}
 use Rattle.attempt.specs.Limits.{maxID}
-use Rattle.attempt.specs.OwnList.{ownList, members, wordOf, wordFor, rowsFor, mayBeAnswered}
+use Rattle.attempt.specs.OwnList.{ownList, wordOf, wordFor, rowsFor, mayBeAnswered}
 use Rattle.attempt.specs.Start.{Input, inputOf, startOf, opened, blank}
 use Rattle.attempt.specs.Step.{Effect, Effect.acts, Effect.completes, stepOf, onDatagram, onProcessed, onOutcome, same}
 use Rattle.attempt.specs.declared.Attempt.{Attempt}
@@ -158,7 +159,7 @@ refusals =
 P1-to-P12 : map computed cases ≡ map expected cases
 unfolding computed expected ourDestination ourSource start packet outcome missing answers attempt three four cases
     closeOf codeIn table choose preferred paired pairKeepsRule eachPairKeepsRule pairsKeepRule elem entriesKeepRule
-    tableKeepsRule reserved usable entries listBytes isReadableNegotiation padded ownOf run members wordOf wordFor
+    tableKeepsRule reserved usable entries listBytes isReadableNegotiation padded ownOf run members wordWhere wordOf wordFor
     rowsFor mayBeAnswered startOf opened blank stepOf onDatagram onProcessed onOutcome same
 P1-to-P12 = refl
 
@@ -166,7 +167,7 @@ mixed-answers : answers (startOf (start three [] 12) .attempt) mixed ≡ refusal
 unfolding mixed refusals computed expected ourDestination ourSource start packet outcome missing answers attempt three
     four cases closeOf codeIn table choose preferred paired pairKeepsRule eachPairKeepsRule pairsKeepRule elem
     entriesKeepRule tableKeepsRule reserved usable entries listBytes isReadableNegotiation padded ownOf run members
-    wordOf wordFor rowsFor mayBeAnswered startOf opened blank stepOf onDatagram onProcessed onOutcome same
+    wordWhere wordOf wordFor rowsFor mayBeAnswered startOf opened blank stepOf onDatagram onProcessed onOutcome same
 mixed-answers = refl
 
 -- Starts with several faults. "Each refusal .. names one cause": 41, 43, 44, 45, the lowest that applies
@@ -190,14 +191,14 @@ chain : List (List ℕ)
 chain = (1 ∷ 2 ∷ []) ∷ (2 ∷ 3 ∷ []) ∷ []
 
 own-lists-of-a-chain : map (ownList (1 ∷ 2 ∷ 3 ∷ []) chain) (1 ∷ 2 ∷ 3 ∷ []) ≡ (1 ∷ 2 ∷ []) ∷ (2 ∷ 3 ∷ []) ∷ (3 ∷ []) ∷ []
-unfolding chain ownList mayBeAnswered paired
+unfolding chain entriesWhere ownList mayBeAnswered paired
 own-lists-of-a-chain = refl
 
 -- Missing information: "one that never acted completes if the version in use is the attempted one, else 73"
 never-acted : map (λ (e : Handed). answers (startOf (start three [] 12) .attempt) (e ∷ [])) (missing 12 ∷ missing 1 ∷ [])
     ≡ (answered (completes 12) ∷ []) ∷ (refuse Reading 73 ∷ []) ∷ []
 unfolding ourDestination ourSource start missing answers three closeOf codeIn table eachPairKeepsRule pairsKeepRule
-    elem entriesKeepRule tableKeepsRule reserved usable padded ownOf members wordOf wordFor rowsFor mayBeAnswered
+    elem entriesKeepRule tableKeepsRule reserved usable padded ownOf members wordWhere wordOf wordFor rowsFor mayBeAnswered
     startOf opened stepOf onOutcome
 never-acted = refl
 
@@ -206,7 +207,7 @@ witness : CompletedAgainst (13 ∷ 14 ∷ []) (start three [] 12) mixed 14
 unfolding mixed actedWith firstOutcome computed expected ourDestination ourSource start packet outcome missing answers
     attempt three four cases closeOf codeIn table choose preferred paired pairKeepsRule eachPairKeepsRule
     pairsKeepRule elem entriesKeepRule tableKeepsRule reserved usable entries listBytes isReadableNegotiation padded
-    ownOf run members wordOf wordFor rowsFor mayBeAnswered startOf opened blank stepOf onDatagram onProcessed
+    ownOf run members wordWhere wordOf wordFor rowsFor mayBeAnswered startOf opened blank stepOf onDatagram onProcessed
     onOutcome same
 witness =
     record {

@@ -1,39 +1,28 @@
 -- Document 01: "Its own list is every table entry, in table order, that is the attempted version or is paired from
 -- it." As a list, and as the record keeps it: a word for each table entry, bit j for table entry j.
-use Prim.Native.Nat.{ℕ, _+_, _*_, _/_, _%_}
-use mathlib.Core.Bool.{Bool, true, false, cond, _||_}
+use Prim.Native.Nat.{ℕ}
+use mathlib.Core.Bool.{Bool, cond, _||_}
 use mathlib.Core.List.{List, [], _∷_}
 use lib.Dec.{eqb}
 use Rattle.versions.specs.Pairs.{paired}
-use Rattle.versions.specs.Words.{bit}
+use Rattle.versions.specs.Words.{entriesWhere, wordWhere, members}
 
 -- "is the attempted version or is paired from it"
 unfoldable pub mayBeAnswered : List (List ℕ) → ℕ → ℕ → Bool
 mayBeAnswered pairs attempted v = eqb v attempted || paired pairs attempted v
 
-abbrev pub keepIf : Bool → ℕ → List ℕ → List ℕ
-keepIf true v vs = v ∷ vs
-keepIf false v vs = vs
-
 -- The own list for an attempted version, from the table and the pairs
 unfoldable pub ownList : List ℕ → List (List ℕ) → ℕ → List ℕ
-ownList [] pairs attempted = []
-ownList (v ∷ table) pairs attempted = keepIf (mayBeAnswered pairs attempted v) v (ownList table pairs attempted)
+ownList table pairs attempted = entriesWhere (mayBeAnswered pairs attempted) table
 
 -- The word for an attempted version: bit j tells whether table entry j may be answered
 unfoldable pub wordFor : List ℕ → List (List ℕ) → ℕ → ℕ
-wordFor [] pairs attempted = 0
-wordFor (v ∷ table) pairs attempted = bit (mayBeAnswered pairs attempted v) + 2 * wordFor table pairs attempted
+wordFor table pairs attempted = wordWhere (mayBeAnswered pairs attempted) table
 
 -- The words of all table entries, in table order
 unfoldable pub rowsFor : List ℕ → List ℕ → List (List ℕ) → List ℕ
 rowsFor [] table pairs = []
 rowsFor (v ∷ vs) table pairs = wordFor table pairs v ∷ rowsFor vs table pairs
-
--- The table entries whose bit is set in a word
-unfoldable pub members : ℕ → List ℕ → List ℕ
-members word [] = []
-members word (v ∷ table) = keepIf (eqb (word % 2) 1) v (members (word / 2) table)
 
 -- The word of a version: that of its first place in the table, 0 where it has none
 unfoldable pub wordOf : List ℕ → List ℕ → ℕ → ℕ

@@ -7,7 +7,7 @@ use lib.ListN.{length, getD}
 use Rattle.versions.specs.Table.{placeOf}
 use Rattle.versions.proofs.Lists.{place-absent, place-present}
 use Rattle.attempt.specs.Attempt.{tableOf, ownOf}
-use Rattle.attempt.specs.OwnList.{members}
+use Rattle.versions.specs.Words.{members}
 use Rattle.attempt.specs.Step.{countsFit}
 use Rattle.attempt.proofs.Walks.{word-at}
 use Rattle.c_record.specs.Records.{marksFit, isRecord, attemptOf, ownRecord}

@@ -11,7 +11,7 @@ use borrow.Author.Tests.{eqb-true, eqb-false}
 use Rattle.versions.specs.Limits.{maxTable}
 use Rattle.versions.specs.Pairs.{fromOf, toOf}
 use Rattle.versions.specs.Table.{elem, placeOf, entriesKeepRule, tableKeepsRule}
-use Rattle.versions.specs.Words.{wordBits, wordWhere, wordFrom, marked}
+use Rattle.versions.specs.Words.{wordBits, wordFrom, marked}
 use Rattle.versions.proofs.Lists.{drop-next, table-entries, place-absent}
 use Rattle.versions.proofs.Marked.{once, word-of-all, from-none, from-pair, from-other}
 use Rattle.attempt.specs.Attempt.{padded}
@@ -20,9 +20,8 @@ use Rattle.attempt.specs.OwnList.{mayBeAnswered, wordFor, rowsFor}
 -- The word of one attempted version
 
 word-is : (ts : List ℕ) (ps : List (List ℕ)) (v : ℕ) → wordFor ts ps v ≡ wordFrom ts ps v
-unfolding wordFor wordWhere mayBeAnswered
-word-is [] ps v = refl
-word-is (t ∷ ts) ps v = rw (word-is ts ps v)
+unfolding wordFor mayBeAnswered
+word-is ts ps v = refl
 
 module _ (ts : List ℕ) (kept : entriesKeepRule ts ≡ true) (v : ℕ) where
   pub word-none : marked ts v 0 ≡ wordFor ts [] v

@@ -12,7 +12,7 @@ pub both-true : (a b : Bool) → (a && b) ≡ true → (a ≡ true) × (b ≡ tr
 both-true true b e = (refl, e)
 both-true false b e = absurd (false≢true e)
 
-refused-not-answered : {A : Type 0} (n : ℕ) (call : Call) (a : A) → refuse call n ≡ answered a → ⊥
+pub refused-not-answered : {A : Type 0} (n : ℕ) (call : Call) (a : A) → refuse call n ≡ answered a → ⊥
 refused-not-answered n call a e = let z : _≡_ {A = ℕ} 0 1 = cc in omega arith
 
 pub answered-injective : {A : Type 0} (a b : A) → answered a ≡ answered b → a ≡ b

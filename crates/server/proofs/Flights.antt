@@ -1,9 +1,9 @@
 -- The choice after a first flight along its code: the walk over the accepted versions, and what the reader of the
 -- client's Version Information answered.
-use Prim.Native.Nat.{ℕ, _+_, _/_, _%_, _<_, _≤_}
-use mathlib.Core.Bool.{Bool, true, false, not, _&&_, _||_}
+use Prim.Native.Nat.{ℕ, _+_, _/_, _<_, _≤_}
+use mathlib.Core.Bool.{true, false, not, _&&_, _||_}
 use mathlib.Core.List.{List, [], _∷_}
-use mathlib.Core.Path.{_≡_, refl, sym, _∙_}
+use mathlib.Core.Path.{_≡_, sym, _∙_}
 use native.Mathlib.Omega.{arith}
 use borrow.Author.Tests.{eq-eqb, ne-eqb}
 use lib.Dec.{eqb}
@@ -15,9 +15,10 @@ use Rattle.refusals.proofs.Rules.{lowest-append}
 use Rattle.lists.specs.declared.Span.{Span}
 use Rattle.versions.specs.Pairs.{fromOf, toOf, paired}
 use Rattle.versions.specs.Table.{elem, tableKeepsRule}
-use Rattle.versions.specs.Words.{wordBits, bit, wordWhere, wordFrom, marked}
+use Rattle.versions.specs.Words.{wordBits, bitAt, wordWhere, wordFrom, marked}
+use Rattle.versions.proofs.Bits.{lowest-bit, rest-bits, bit-says}
 use Rattle.versions.proofs.Lists.{drop-next, table-entries}
-use Rattle.versions.proofs.Marked.{lowest-bit, rest-bits, word-of-all, from-none, from-pair, from-other}
+use Rattle.versions.proofs.Marked.{word-of-all, from-none, from-pair, from-other}
 use Rattle.information.specs.Information.{chosenOf, availableOf, versionsIn, readInformation}
 use Rattle.information.specs.declared.Presence.the-variants.{Given}
 use Rattle.information.specs.declared.Sender.the-variants.{Client}
@@ -46,16 +47,12 @@ module _ (pairs : List (List ℕ)) (chosen : ℕ) (available accepted : List ℕ
   abbrev here : ℕ
   here = getD accepted i 0
 
-  bit-told : (b : Bool) → eqb (bit b) 1 ≡ b
-  bit-told true = refl
-  bit-told false = refl
-
   pub use-told : i < length accepted → word ≡ wordFrom (drop i accepted) pairs chosen →
-      mayUse pairs chosen available here ≡ (elem here available && eqb (word % 2) 1)
+      mayUse pairs chosen available here ≡ (elem here available && bitAt word 0)
   unfolding mayUse wordWhere
   use-told h e =
       let b = eqb here chosen || paired pairs chosen here in
-      rw (e, drop-next accepted i 0 h, lowest-bit b (wordFrom (drop (i + 1) accepted) pairs chosen), bit-told b)
+      rw (e, drop-next accepted i 0 h, lowest-bit b (wordFrom (drop (i + 1) accepted) pairs chosen), bit-says b)
 
   pub word-rest : i < length accepted → word ≡ wordFrom (drop i accepted) pairs chosen →
       word / 2 ≡ wordFrom (drop (i + 1) accepted) pairs chosen

@@ -1,11 +1,9 @@
 // The server's choice after a first flight (RFC 9368 sections 2.3 and 4). It answers for every input.
-ghost use Prim.Native.Nat.{_%_};
 ghost use mathlib.Core.Bool.{true, cond, _&&_};
 ghost use mathlib.Core.Path.{_≡_};
-ghost use lib.Dec.{eqb};
 ghost use Rattle.refusals.specs.Reply.{Reply.answered};
 ghost use Rattle.versions.specs.Table.{elem, tableKeepsRule};
-ghost use Rattle.versions.specs.Words.{wordFrom};
+ghost use Rattle.versions.specs.Words.{bitAt, wordFrom};
 ghost use Rattle.lists.specs.Wire.{entries};
 ghost use Rattle.information.specs.declared.Presence.the-variants.{Given};
 ghost use Rattle.server.specs.FirstFlight.{Act.negotiate, Act.use-version, decisionReply, firstAccepted, withInformation, decide};
@@ -133,7 +131,7 @@ fn word_from(accepted: &[u32], pairs: &[[u32; 2]], chosen: u32) -> u64
 
 // Whether the version's bit, the lowest of the word, is set, and the version is among the Available Versions.
 fn may_use(word: u64, available: &[u8], version: u32) -> bool
-    ensures { λ r. ⌜ r ≡ (elem version (entries (now (available .entry))) && eqb (word % 2) 1) ⌝ }
+    ensures { λ r. ⌜ r ≡ (elem version (entries (now (available .entry))) && bitAt word 0) ⌝ }
 {
     if word % 2 != 1 {
         return false;

@@ -16,6 +16,7 @@ use Rattle.versions.specs.Pairs.{fromOf, toOf, paired}
 use Rattle.versions.specs.Table.{elem, placeOf, entriesKeepRule, tableKeepsRule}
 use Rattle.versions.specs.Version.{usable}
 use Rattle.versions.specs.Words.{wordBits, bit, wordWhere, wordFrom, marked}
+use Rattle.versions.proofs.Bits.{lowest-bit, rest-bits, word-same, none-set}
 use Rattle.versions.proofs.Lists.{table-counts}
 use Rattle.versions.proofs.Repeated.{or-swap}
 
@@ -66,14 +67,7 @@ marked-at (suc n) (t ∷ ts) v w h l = go (eqb t v) h l (marked-at n ts v (w / 2
     go true h l ih = lowest-set w
     go false h l ih = rw (ih (omega arith) (omega arith)) (higher-set w (placeOf v ts))
 
--- As a set: tests that agree have one word
-
-pub word-same : (f g : ℕ → Bool) → ((v : ℕ) → f v ≡ g v) → (ts : List ℕ) → wordWhere f ts ≡ wordWhere g ts
-unfolding wordWhere
-word-same f g e [] = refl
-word-same f g e (t ∷ ts) = rw (e t, word-same f g e ts)
-
--- A mark is one version more in the set, where no entry stands twice
+-- As a set: a mark is one version more in the set, where no entry stands twice
 
 -- a version that no entry is adds nothing
 absent : (f : ℕ → Bool) (v : ℕ) (ts : List ℕ) → elem v ts ≡ false → wordWhere (λ t. eqb t v || f t) ts ≡ wordWhere f ts
@@ -86,15 +80,6 @@ absent f v (t ∷ ts) h = go (eqb t v) h (absent f v ts)
         bit (b || f t) + 2 * wordWhere (λ t. eqb t v || f t) ts ≡ bit (f t) + 2 * wordWhere f ts
     go true h ih = absurd (true≢false h)
     go false h ih = rw (ih h)
-
--- the lowest bit of a word, and the rest of it
-pub lowest-bit : (b : Bool) (w : ℕ) → (bit b + 2 * w) % 2 ≡ bit b
-lowest-bit true w = omega arith
-lowest-bit false w = omega arith
-
-pub rest-bits : (b : Bool) (w : ℕ) → (bit b + 2 * w) / 2 ≡ w
-rest-bits true w = omega arith
-rest-bits false w = omega arith
 
 -- what the rule says of the first entry, and of the rest
 pub once : (t : ℕ) (ts : List ℕ) → entriesKeepRule (t ∷ ts) ≡ true → (elem t ts ≡ false) × (entriesKeepRule ts ≡ true)
@@ -123,12 +108,6 @@ marked-set f v (t ∷ ts) h =
     go false e k ih = rw (rest-bits (f t) rest, lowest-bit (f t) rest, ih)
 
 -- The word from pairs, pair by pair from the pairs' end
-
--- a set without members
-none-set : (ts : List ℕ) → wordWhere (λ t. false) ts ≡ 0
-unfolding wordWhere
-none-set [] = refl
-none-set (t ∷ ts) = rw (none-set ts)
 
 equal-turned : (a b : ℕ) → eqb a b ≡ eqb b a
 equal-turned a b = go (eqb b a) refl

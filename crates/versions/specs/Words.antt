@@ -1,5 +1,6 @@
--- Sets of table entries as words: bit j of a word tells whether table entry j is in the set.
-use Prim.Native.Nat.{ℕ, _+_, _*_, _/_, _%_}
+-- Sets of table entries as words. Document 02, C-15: "Each place of the table is a bit"; bit j of a word tells whether
+-- table entry j is in the set.
+use Prim.Native.Nat.{ℕ, zero, suc, _+_, _*_, _/_, _%_}
 use mathlib.Core.Bool.{Bool, true, false, cond, _||_}
 use mathlib.Core.List.{List, [], _∷_}
 use lib.Dec.{eqb}
@@ -9,18 +10,35 @@ use Rattle.versions.specs.Pairs.{paired}
 abbrev pub wordBits : ℕ
 wordBits = 64
 
+-- Whether bit j of a word is set; bit 0 is the lowest
+abbrev pub bitAt : ℕ → ℕ → Bool
+bitAt word zero = eqb (word % 2) 1
+bitAt word (suc j) = bitAt (word / 2) j
+
 abbrev pub bit : Bool → ℕ
 bit true = 1
 bit false = 0
 
--- The word of the table entries that a test holds of. Of this and the next, private functions promise; no public promise
--- names them
+abbrev pub keepIf : Bool → ℕ → List ℕ → List ℕ
+keepIf true v vs = v ∷ vs
+keepIf false v vs = vs
+
+-- The table entries that a test holds of, in table order
+unfoldable pub entriesWhere : (ℕ → Bool) → List ℕ → List ℕ
+entriesWhere test [] = []
+entriesWhere test (v ∷ table) = keepIf (test v) v (entriesWhere test table)
+
+-- The word of the table entries that a test holds of
 unfoldable pub wordWhere : (ℕ → Bool) → List ℕ → ℕ
 wordWhere test [] = 0
 wordWhere test (v ∷ table) = bit (test v) + 2 * wordWhere test table
 
--- The word of the table entries that are v or are paired from it. Of the client's table it is `wordFor`
--- (crates/attempt/specs/OwnList.antt), by `word-is` (crates/client_start/proofs/Rows.antt)
+-- The table entries whose bit is set in a word. A bit at or past the table's length is that of no entry
+unfoldable pub members : ℕ → List ℕ → List ℕ
+members word [] = []
+members word (v ∷ table) = keepIf (bitAt word 0) v (members (word / 2) table)
+
+-- The word of the table entries that are v or are paired from it. A private function of the server's choice promises it
 abbrev pub wordFrom : List ℕ → List (List ℕ) → ℕ → ℕ
 wordFrom table pairs v = wordWhere (λ t. eqb t v || paired pairs v t) table
 

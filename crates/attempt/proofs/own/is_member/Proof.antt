@@ -7,8 +7,9 @@ use native.Mathlib.Omega.{arith}
 use denote.Ref.{now}
 use lib.ListN.{length, drop, getD}
 use Rattle.versions.specs.Table.{elem}
-use Rattle.attempt.specs.OwnList.{members}
-use Rattle.attempt.proofs.Walks.{first-is, first-is-not, bit-set, bit-clear, bits-end}
+use Rattle.versions.specs.Words.{members}
+use Rattle.versions.proofs.Members.{bit-set, bit-clear, bits-end}
+use Rattle.attempt.proofs.Walks.{first-is, first-is-not}
 use Rattle.attempt.proofs.own.is_member.Statement.{statement}
 use Rattle.attempt.proofs.own.is_member.Tie as tie
 

@@ -7,7 +7,7 @@ use lib.Seq.{take-all}
 use borrow.Author.Needs.{needs}
 use Rattle.versions.specs.Limits.{maxTable}
 use Rattle.attempt.specs.Attempt.{padded, tableOf, ownOf}
-use Rattle.attempt.specs.OwnList.{members}
+use Rattle.versions.specs.Words.{members}
 use Rattle.attempt.proofs.Walks.{take-cut}
 use Rattle.attempt.proofs.own.own_list.Statement.{statement}
 use Rattle.attempt.proofs.own.own_list.Tie as tie

@@ -12,10 +12,9 @@ use lib.Count.{trailingZeros, trailing-le, trailing-of-zero}
 use lib.ListN.{length, take, length-take}
 use lib.Seq.{getD-take}
 use Rattle.versions.specs.Limits.{maxTable}
-use Rattle.versions.specs.Words.{wordBits}
+use Rattle.versions.specs.Words.{wordBits, members}
 use Rattle.versions.proofs.Marked.{table-in-word}
 use Rattle.attempt.specs.Attempt.{over}
-use Rattle.attempt.specs.OwnList.{members}
 use Rattle.attempt.proofs.Walks.{Collected, collected-none, room, collected-one, collected-all}
 use Rattle.attempt.proofs.own.put_members.Statement.{statement}
 use Rattle.attempt.proofs.own.put_members.Tie as tie

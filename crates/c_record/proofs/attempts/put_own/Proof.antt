@@ -11,7 +11,7 @@ use lib.ListN.{length, take, getD, length-take}
 use lib.Seq.{take-all}
 use Rattle.versions.specs.Limits.{maxTable}
 use Rattle.attempt.specs.Attempt.{over, tableOf}
-use Rattle.attempt.specs.OwnList.{members}
+use Rattle.versions.specs.Words.{members}
 use Rattle.attempt.specs.Step.{countsFit}
 use Rattle.client_verdict.proofs.Judged.{counts-table}
 use Rattle.c_record.specs.Records.{marksFit, isRecord, attemptOf, ownRecord}
