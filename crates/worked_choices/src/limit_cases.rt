@@ -50,7 +50,7 @@ fn flight(label: &[u8], pairs: &[[u32; 2]]) {
 }
 
 // The versions 1, 2, 3 and so on.
-fn counted() -> [u32; ENTRIES] {
+pub(crate) fn counted() -> [u32; ENTRIES] {
     let mut versions = [0u32; ENTRIES];
     let mut version = 0u32;
     let mut i = 0;
@@ -63,7 +63,7 @@ fn counted() -> [u32; ENTRIES] {
 }
 
 // As many of them as a table may have.
-fn most(versions: &[u32]) -> &[u32] {
+pub(crate) fn most(versions: &[u32]) -> &[u32] {
     if MAX_TABLE < versions.len() {
         return &versions[..MAX_TABLE];
     }

@@ -8,7 +8,7 @@ pub(crate) fn text(words: &[u8]) {
     io::write_all(STDOUT_FILENO, words);
 }
 
-fn number(value: u64) {
+pub(crate) fn number(value: u64) {
     io::print_decimal(STDOUT_FILENO, value);
 }
 
