@@ -1,5 +1,6 @@
 /*
- * A client and a server walk-through of quic_version.h, its layout, and NULL with length 0.
+ * A client and a server walk-through of quic_version.h, lists as words, the record's layout, and
+ * NULL with length 0.
  * After `scripts/install PREFIX`, with PREFIX/lib/pkgconfig in PKG_CONFIG_PATH:
  *
  *     gcc -std=c99 example.c $(pkg-config --cflags --libs quic-version) -o example
@@ -52,7 +53,7 @@ static void layout(void)
     size_t i;
 
     EXPECT(qv_interface_version() == QV_INTERFACE_VERSION);
-    EXPECT(qv_interface_4() == QV_INTERFACE_VERSION);
+    EXPECT(qv_interface_5() == QV_INTERFACE_VERSION);
     EXPECT(qv_record_size() == sizeof(struct qv_attempt));
     for (i = 0; i < QV_MAX_TABLE; i++) {
         EXPECT(record.rows[i] == UINT64_C(0x1112131415161718));
@@ -244,6 +245,30 @@ static void null_with_length_0(void)
     EXPECT(started.attempt.end_mark == QV_COMPLETED && started.attempt.end_value == 1);
 }
 
+/* The same for lists as words: an empty list has the word 0 and no refusal, but no choice. */
+static void null_with_length_0_as_words(void)
+{
+    static const uint32_t one[] = {1};
+    uint32_t version = 7;
+    uint64_t word = 7;
+    size_t count = 7;
+
+    EXPECT(qv_list_word(NULL, 0, NULL, 0, &word) == QV_BAD_TABLE && word == 7);
+    EXPECT(qv_count_held(NULL, 0, NULL, 0, &count) == QV_BAD_TABLE && count == 7);
+    EXPECT(qv_choose_by_word(NULL, 0, NULL, 0, &version) == QV_BAD_TABLE);
+    EXPECT(qv_choose_from_word(NULL, 0, 1, &version) == QV_BAD_TABLE);
+    EXPECT(qv_choose_by_word(one, 1, NULL, 0, &version) == QV_NOTHING_IN_COMMON);
+    EXPECT(qv_choose_by_word_from_bytes(one, 1, NULL, 0, &version) == QV_NOTHING_IN_COMMON);
+    EXPECT(version == 7);
+
+    EXPECT(qv_list_word(one, 1, NULL, 0, &word) == QV_OK && word == 0);
+    EXPECT(qv_count_held(one, 1, NULL, 0, &count) == QV_OK && count == 0);
+    word = 7;
+    count = 7;
+    EXPECT(qv_list_word_from_bytes(one, 1, NULL, 0, &word) == QV_OK && word == 0);
+    EXPECT(qv_count_held_from_bytes(one, 1, NULL, 0, &count) == QV_OK && count == 0);
+}
+
 /* Every call refuses this record with 255, and leaves it as found. */
 static void no_attempt(struct qv_attempt attempt)
 {
@@ -331,6 +356,68 @@ static void small_calls(void)
     EXPECT(version == 12);
 }
 
+/* Lists as words: bit j is entry j of the table. The version at the lowest bit is the choice. */
+static void words(void)
+{
+    static const uint32_t table[] = {14, 12, 10};
+    static const uint32_t list[] = {10, 13, 14};
+    static const uint8_t bytes[] = {0, 0, 0, 10, 0, 0, 0, 13, 0, 0, 0, 12, 0};
+    uint32_t version = 0;
+    uint64_t word = 0, other = 0;
+    size_t count = 0;
+
+    /* The list holds 14 and 10, the first and the last of the table. */
+    EXPECT(qv_list_word(table, 3, list, 3, &word) == QV_OK && word == 5);
+    EXPECT(qv_choose_by_word(table, 3, list, 3, &version) == QV_OK && version == 14);
+    EXPECT(qv_count_held(table, 3, list, 3, &count) == QV_OK && count == 2);
+
+    /* On the wire: 10, 13 and 12, and a byte that is no entry. */
+    EXPECT(qv_list_word_from_bytes(table, 3, bytes, sizeof bytes, &other) == QV_OK && other == 6);
+    EXPECT(qv_choose_by_word_from_bytes(table, 3, bytes, sizeof bytes, &version) == QV_OK);
+    EXPECT(version == 12);
+    EXPECT(qv_count_held_from_bytes(table, 3, bytes, sizeof bytes, &count) == QV_OK && count == 2);
+
+    /* Both lists joined hold all three. */
+    EXPECT((word | other) == 7);
+    EXPECT(qv_choose_from_word(table, 3, word | other, &version) == QV_OK && version == 14);
+
+    /* A word of any origin: a bit past the table is nobody's. No bit: 42, and 14 is left. */
+    EXPECT(qv_choose_from_word(table, 3, UINT64_C(1) << 3, &version) == QV_NOTHING_IN_COMMON);
+    EXPECT(qv_choose_from_word(table, 3, 0, &version) == QV_NOTHING_IN_COMMON && version == 14);
+    EXPECT(qv_choose_from_word(table, 3, ~UINT64_C(1), &version) == QV_OK && version == 12);
+}
+
+/* A full table, of which a list as long as it may be holds the last entry alone. */
+static void words_at_the_limits(void)
+{
+    static uint32_t list[QV_MAX_LIST + 1];
+    uint32_t table[QV_MAX_TABLE], last = QV_MAX_TABLE, version = 0;
+    uint64_t word = 0;
+    size_t i, count = 0;
+
+    for (i = 0; i < QV_MAX_TABLE; i++) {
+        table[i] = (uint32_t)i + 1;
+    }
+    list[QV_MAX_LIST - 1] = last;
+    EXPECT(qv_list_word(table, QV_MAX_TABLE, list, QV_MAX_LIST, &word) == QV_OK);
+    EXPECT(word == UINT64_C(1) << 63);
+    EXPECT(qv_choose_by_word(table, QV_MAX_TABLE, list, QV_MAX_LIST, &version) == QV_OK);
+    EXPECT(version == last);
+    EXPECT(qv_count_held(table, QV_MAX_TABLE, list, QV_MAX_LIST, &count) == QV_OK && count == 1);
+    EXPECT(qv_choose_from_word(table, QV_MAX_TABLE, word, &version) == QV_OK && version == last);
+    EXPECT(qv_choose_from_word(table, QV_MAX_TABLE - 1, word, &version) == QV_NOTHING_IN_COMMON);
+
+    /* The table itself as a list: every bit. */
+    EXPECT(qv_list_word(table, QV_MAX_TABLE, table, QV_MAX_TABLE, &word) == QV_OK);
+    EXPECT(word == UINT64_MAX);
+
+    /* One entry more than a list may have leaves all as found, whatever the table. */
+    EXPECT(qv_list_word(table, 0, list, QV_MAX_LIST + 1, &word) == QV_LIST_TOO_LONG);
+    EXPECT(qv_choose_by_word(table, 0, list, QV_MAX_LIST + 1, &version) == QV_LIST_TOO_LONG);
+    EXPECT(qv_count_held(table, 0, list, QV_MAX_LIST + 1, &count) == QV_LIST_TOO_LONG);
+    EXPECT(word == UINT64_MAX && version == last && count == 1);
+}
+
 int main(void)
 {
     uint8_t packet[QV_MAX_PACKET];
@@ -339,11 +426,14 @@ int main(void)
     layout();
     limits();
     small_calls();
+    words();
+    words_at_the_limits();
     count = server(packet);
     server_choice();
     client(packet, count);
     client_refuses(packet, count);
     null_with_length_0();
+    null_with_length_0_as_words();
     not_valid();
     puts("c example ok");
     return 0;

@@ -29,7 +29,7 @@ extern "C" {
 
 /* The release, and the interface that this header describes. */
 #define QV_RELEASE "0.1.0"
-#define QV_INTERFACE_VERSION 4u
+#define QV_INTERFACE_VERSION 5u
 
 /* On a function that answers a refusal: the compiler warns where the answer is not looked at. */
 #if defined(__GNUC__)
@@ -150,7 +150,7 @@ uint32_t qv_interface_version(void);
  * that a library with another interface does not link (with GCC and Clang; else compare
  * qv_interface_version() with QV_INTERFACE_VERSION at the start).
  */
-uint32_t qv_interface_4(void);
+uint32_t qv_interface_5(void);
 #if defined(__GNUC__)
 #if defined(__has_attribute)
 #if __has_attribute(retain)
@@ -160,7 +160,7 @@ uint32_t qv_interface_4(void);
 #ifndef QV_KEPT
 #define QV_KEPT __attribute__((used))
 #endif
-static uint32_t (*const qv_linked_interface)(void) QV_KEPT = qv_interface_4;
+static uint32_t (*const qv_linked_interface)(void) QV_KEPT = qv_interface_5;
 #endif
 
 /* sizeof(struct qv_attempt) as the library has it. */
@@ -274,6 +274,62 @@ uint32_t qv_choose(const uint32_t *table, size_t table_len, const uint32_t *list
 QV_CHECKED
 uint32_t qv_choose_from_bytes(const uint32_t *table, size_t table_len, const uint8_t *bytes,
                               size_t bytes_len, uint32_t *version);
+
+/*
+ * A list as a word of 64 bits: bit j, with bit 0 the lowest, is set where entry j of the table
+ * occurs in the list. 0 means that nothing of the table is in the list; that is no refusal here.
+ * `a | b` is the word of two lists joined, where the joined list has at most QV_MAX_LIST entries,
+ * and both words were made with the same table.
+ * Refusals, in order: 40, 41. They leave *word as found.
+ */
+QV_CHECKED
+uint32_t qv_list_word(const uint32_t *table, size_t table_len, const uint32_t *list,
+                      size_t list_len, uint64_t *word);
+
+/* The same of a list as it lies on the wire; 1 to 3 bytes left over are no entry. */
+QV_CHECKED
+uint32_t qv_list_word_from_bytes(const uint32_t *table, size_t table_len, const uint8_t *bytes,
+                                 size_t bytes_len, uint64_t *word);
+
+/*
+ * The choice from a list by its word. It answers as qv_choose does, on every table and list.
+ * Refusals, in order: 40, 41, 42. They leave *version as found.
+ */
+QV_CHECKED
+uint32_t qv_choose_by_word(const uint32_t *table, size_t table_len, const uint32_t *list,
+                           size_t list_len, uint32_t *version);
+
+/*
+ * The same from a list as it lies on the wire; 1 to 3 bytes left over are no entry. It answers as
+ * qv_choose_from_bytes does.
+ */
+QV_CHECKED
+uint32_t qv_choose_by_word_from_bytes(const uint32_t *table, size_t table_len,
+                                      const uint8_t *bytes, size_t bytes_len, uint32_t *version);
+
+/*
+ * The choice from a word of any origin, such as the words of several lists joined: the entry of the
+ * table at the word's lowest set bit. Bits at or past the table's length change nothing.
+ * Refusals, in order: 41, 42 (no bit of a table entry is set). They leave *version as found. There
+ * is no list here, so 40 is never given.
+ */
+QV_CHECKED
+uint32_t qv_choose_from_word(const uint32_t *table, size_t table_len, uint64_t word,
+                             uint32_t *version);
+
+/*
+ * How many entries of the table occur in the list, each counted once: the ones of the list's word.
+ * It is 0 where none does; that is no refusal here.
+ * Refusals, in order: 40, 41. They leave *count as found.
+ */
+QV_CHECKED
+uint32_t qv_count_held(const uint32_t *table, size_t table_len, const uint32_t *list,
+                       size_t list_len, size_t *count);
+
+/* The same of a list as it lies on the wire; 1 to 3 bytes left over are no entry. */
+QV_CHECKED
+uint32_t qv_count_held_from_bytes(const uint32_t *table, size_t table_len, const uint8_t *bytes,
+                                  size_t bytes_len, size_t *count);
 
 /* Whether the handshake had Version Information. */
 #define QV_MISSING 0u

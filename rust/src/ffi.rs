@@ -99,7 +99,7 @@ mod header {
 
     extern "C" {
         pub fn qv_interface_version() -> u32;
-        pub fn qv_interface_4() -> u32;
+        pub fn qv_interface_5() -> u32;
         pub fn qv_record_size() -> usize;
         pub fn qv_known_record() -> Record;
         pub fn qv_close_code(refusal: u32, call: u32) -> u64;
@@ -156,6 +156,54 @@ mod header {
             bytes_len: usize,
             version: *mut u32,
         ) -> u32;
+        pub fn qv_list_word(
+            table: *const u32,
+            table_len: usize,
+            list: *const u32,
+            list_len: usize,
+            word: *mut u64,
+        ) -> u32;
+        pub fn qv_list_word_from_bytes(
+            table: *const u32,
+            table_len: usize,
+            bytes: *const u8,
+            bytes_len: usize,
+            word: *mut u64,
+        ) -> u32;
+        pub fn qv_choose_by_word(
+            table: *const u32,
+            table_len: usize,
+            list: *const u32,
+            list_len: usize,
+            version: *mut u32,
+        ) -> u32;
+        pub fn qv_choose_by_word_from_bytes(
+            table: *const u32,
+            table_len: usize,
+            bytes: *const u8,
+            bytes_len: usize,
+            version: *mut u32,
+        ) -> u32;
+        pub fn qv_choose_from_word(
+            table: *const u32,
+            table_len: usize,
+            word: u64,
+            version: *mut u32,
+        ) -> u32;
+        pub fn qv_count_held(
+            table: *const u32,
+            table_len: usize,
+            list: *const u32,
+            list_len: usize,
+            count: *mut usize,
+        ) -> u32;
+        pub fn qv_count_held_from_bytes(
+            table: *const u32,
+            table_len: usize,
+            bytes: *const u8,
+            bytes_len: usize,
+            count: *mut usize,
+        ) -> u32;
         pub fn qv_server_choice(
             readable: *const u32,
             readable_len: usize,
@@ -199,7 +247,7 @@ mod header {
 /// link with a library of another interface. With Rust 1.63, GNU ld drops it as unused; so build.rs
 /// looks for the name, too.
 #[used]
-static INTERFACE: unsafe extern "C" fn() -> u32 = header::qv_interface_4;
+static INTERFACE: unsafe extern "C" fn() -> u32 = header::qv_interface_5;
 
 /// `qv_interface_version`.
 #[inline]
@@ -208,12 +256,12 @@ pub fn interface_version() -> u32 {
     unsafe { header::qv_interface_version() }
 }
 
-/// `qv_interface_4`, for tests/layout.rs alone.
+/// `qv_interface_5`, for tests/layout.rs alone.
 #[allow(dead_code)]
 #[inline]
-pub fn interface_4() -> u32 {
+pub fn interface_5() -> u32 {
     // SAFETY: it takes nothing.
-    unsafe { header::qv_interface_4() }
+    unsafe { header::qv_interface_5() }
 }
 
 /// `qv_record_size`, for tests/layout.rs alone.
@@ -375,6 +423,95 @@ pub fn choose_from_bytes(table: &[u32], bytes: &[u8], version: &mut u32) -> u32 
             bytes.as_ptr(),
             bytes.len(),
             version,
+        )
+    }
+}
+
+/// `qv_list_word`.
+#[inline]
+pub fn list_word(table: &[u32], list: &[u32], word: &mut u64) -> u32 {
+    // SAFETY: a slice is valid for its length, and references do not overlap.
+    unsafe { header::qv_list_word(table.as_ptr(), table.len(), list.as_ptr(), list.len(), word) }
+}
+
+/// `qv_list_word_from_bytes`.
+#[inline]
+pub fn list_word_from_bytes(table: &[u32], bytes: &[u8], word: &mut u64) -> u32 {
+    // SAFETY: a slice is valid for its length, and references do not overlap.
+    unsafe {
+        header::qv_list_word_from_bytes(
+            table.as_ptr(),
+            table.len(),
+            bytes.as_ptr(),
+            bytes.len(),
+            word,
+        )
+    }
+}
+
+/// `qv_choose_by_word`.
+#[inline]
+pub fn choose_by_word(table: &[u32], list: &[u32], version: &mut u32) -> u32 {
+    // SAFETY: a slice is valid for its length, and references do not overlap.
+    unsafe {
+        header::qv_choose_by_word(
+            table.as_ptr(),
+            table.len(),
+            list.as_ptr(),
+            list.len(),
+            version,
+        )
+    }
+}
+
+/// `qv_choose_by_word_from_bytes`.
+#[inline]
+pub fn choose_by_word_from_bytes(table: &[u32], bytes: &[u8], version: &mut u32) -> u32 {
+    // SAFETY: a slice is valid for its length, and references do not overlap.
+    unsafe {
+        header::qv_choose_by_word_from_bytes(
+            table.as_ptr(),
+            table.len(),
+            bytes.as_ptr(),
+            bytes.len(),
+            version,
+        )
+    }
+}
+
+/// `qv_choose_from_word`.
+#[inline]
+pub fn choose_from_word(table: &[u32], word: u64, version: &mut u32) -> u32 {
+    // SAFETY: a slice is valid for its length, and references do not overlap.
+    unsafe { header::qv_choose_from_word(table.as_ptr(), table.len(), word, version) }
+}
+
+/// `qv_count_held`.
+#[inline]
+pub fn count_held(table: &[u32], list: &[u32], count: &mut usize) -> u32 {
+    // SAFETY: a slice is valid for its length, and references do not overlap.
+    unsafe {
+        header::qv_count_held(
+            table.as_ptr(),
+            table.len(),
+            list.as_ptr(),
+            list.len(),
+            count,
+        )
+    }
+}
+
+/// `qv_count_held_from_bytes`.
+#[inline]
+pub fn count_held_from_bytes(table: &[u32], bytes: &[u8], count: &mut usize) -> u32 {
+    // SAFETY: a slice is valid for its length, and references do not overlap.
+    unsafe {
+        header::qv_count_held_from_bytes(
+            table.as_ptr(),
+            table.len(),
+            bytes.as_ptr(),
+            bytes.len(),
+            count,
         )
     }
 }

@@ -52,6 +52,7 @@ mod ffi;
 mod refusal;
 mod shown;
 mod wire;
+mod words;
 
 pub use attempt::{Attempt, End, OwnList};
 pub use choice::{
@@ -61,6 +62,10 @@ pub use refusal::{Refusal, WriteRefusal};
 pub use wire::{
     read_header, read_information, versions, write_information, write_version_negotiation, Header,
     Information, Sender, Versions,
+};
+pub use words::{
+    choose_by_word, choose_by_word_from_bytes, choose_from_word, count_held, count_held_from_bytes,
+    list_word, list_word_from_bytes,
 };
 
 /// The walk-throughs of docs/INTEGRATION.md, so that they compile.
@@ -76,7 +81,7 @@ pub const VERSION_2: u32 = 0x6b33_43cf;
 /// The release: this crate's version, and that of the library with it.
 pub const RELEASE: &str = env!("CARGO_PKG_VERSION");
 /// The interface that this crate is written for. With a library of another one it does not link.
-pub const INTERFACE_VERSION: u32 = 4;
+pub const INTERFACE_VERSION: u32 = 5;
 /// The most entries of a table of versions.
 pub const MAX_TABLE: usize = ffi::MAX_TABLE;
 /// The most pairs of a table of compatible pairs.

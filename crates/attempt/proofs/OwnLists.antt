@@ -1,15 +1,36 @@
 -- The own list that the record keeps as words is document 01's.
-use Prim.Native.Nat.{ℕ}
+use Prim.Native.Nat.{ℕ, _+_, _*_}
 use mathlib.Core.Bool.{Bool, true, false, cond, _||_, false≢true}
 use mathlib.Core.List.{List, [], _∷_, _++_}
 use mathlib.Core.Path.{_≡_, refl, ap}
 use lib.Dec.{eqb}
 use borrow.Author.Tests.{eqb-true}
 use Rattle.versions.specs.Table.{elem}
-use Rattle.versions.specs.Words.{members}
+use Rattle.versions.specs.Words.{bit, keepIf, entriesWhere, wordWhere, members}
 use Rattle.versions.proofs.Members.{members-where}
 use Rattle.attempt.specs.OwnList.{mayBeAnswered, ownList, wordFor, rowsFor, wordOf}
 
+-- Entry by entry: the clauses that own list and word had as definitions of their own, before a set of bits had one
+module _ (pairs : List (List ℕ)) (attempted : ℕ) where
+  pub own-list-empty : ownList [] pairs attempted ≡ []
+  unfolding ownList entriesWhere
+  own-list-empty = refl
+
+  pub own-list-entry : (v : ℕ) (table : List ℕ) →
+      ownList (v ∷ table) pairs attempted ≡ keepIf (mayBeAnswered pairs attempted v) v (ownList table pairs attempted)
+  unfolding ownList entriesWhere
+  own-list-entry v table = refl
+
+  pub word-empty : wordFor [] pairs attempted ≡ 0
+  unfolding wordFor wordWhere
+  word-empty = refl
+
+  pub word-entry : (v : ℕ) (table : List ℕ) →
+      wordFor (v ∷ table) pairs attempted ≡ bit (mayBeAnswered pairs attempted v) + 2 * wordFor table pairs attempted
+  unfolding wordFor wordWhere
+  word-entry v table = refl
+
+-- The members of the word are the own list
 pub members-word : (table : List ℕ) (pairs : List (List ℕ)) (v : ℕ) →
     members (wordFor table pairs v) table ≡ ownList table pairs v
 unfolding wordFor ownList

@@ -30,8 +30,8 @@ pub fn own_list(attempt: Attempt) -> OwnList
 }
 
 // Puts the table entries whose bits are set in the word at the front of the places, and answers how many they are. Of a
-// table with more than MAX_TABLE entries it reads the first MAX_TABLE. It refuses nothing; the places past the last
-// entry keep their values.
+// table with more than MAX_TABLE entries it reads the first MAX_TABLE. Bits at or past the table's length add nothing. It
+// refuses nothing; the places past the last entry keep their values.
 pub fn put_members(table: &[u32], word: u64, places: &mut [u32; MAX_TABLE]) -> usize
     ensures counted { λ r. ⌜ r ≡ length (members word (take maxTable (now (table .entry)))) ⌝ }
     ensures left { λ _. ⌜ now (places .exit) ≡ over (members word (take maxTable (now (table .entry)))) (now (places .entry)) ⌝ }
@@ -72,7 +72,7 @@ fn cut(count: usize, room: usize) -> usize
 }
 
 // Whether a version is in the own list for an attempted one, read from a table and the words of its entries. It
-// refuses nothing; an entry without a word has an empty own list.
+// refuses nothing; an entry without a word has an empty own list, and bits at or past the table's length add nothing.
 pub fn is_own<'a>(table: &'a [u32], rows: &'a [u64], attempted: u32, version: u32) -> bool
     ensures { λ r. ⌜ r ≡ elem version (ownIn (now (table .entry)) (now (rows .entry)) attempted) ⌝ }
 {

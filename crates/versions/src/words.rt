@@ -6,7 +6,7 @@ use crate::WORD_BITS;
 use crate::table::place_of;
 
 // The word with the bit set of the version's first place in the table. A version that is not among the first WORD_BITS
-// entries leaves the word as it is.
+// entries leaves the word as it is. All other bits stay as they are, those past the table too.
 pub fn mark(table: &[u32], version: u32, word: u64) -> u64
     ensures { λ r. ⌜ r ≡ marked (take wordBits (now (table .entry))) version word ⌝ }
 {

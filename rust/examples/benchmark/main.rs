@@ -22,6 +22,7 @@ mod plain;
 mod raw;
 mod versions;
 mod wire;
+mod words;
 
 use measure::Table;
 use quic_version::Pair;
@@ -33,6 +34,7 @@ fn main() {
     wire::rows(&mut table);
     attempts::rows(&mut table);
     choices::rows(&mut table);
+    words::rows(&mut table);
     versions::rows(&mut table);
     table.end();
     println!();

@@ -2,6 +2,7 @@
 
 mod configurations;
 mod link;
+mod words;
 
 /// The page's client, and tests that run it.
 mod client {
@@ -27,6 +28,7 @@ fn code_of_the_page() {
     assert_eq!(
         shown,
         [
+            include_str!("page/words.rs"),
             include_str!("page/client.rs"),
             include_str!("page/server.rs")
         ]

@@ -1,6 +1,6 @@
 //! The library against the model of documents 01 and 02: seeded inputs, whole ranges and edges.
 //!
-//! `cargo test --release` makes some four million comparisons. QUIC_VERSION_SEED (a number) gives
+//! `cargo test --release` makes some six million comparisons. QUIC_VERSION_SEED (a number) gives
 //! other inputs, QUIC_VERSION_ROUNDS (a number) more or fewer of them.
 //!
 //! Every `check_` function compares one call: the answer, every lent place and every byte of the
@@ -66,6 +66,8 @@ fn library_and_model_agree() {
     std::io::stdout().write_all(text.as_bytes()).unwrap();
     let never = seen.never();
     assert!(never.is_empty(), "never seen: {:?}", never);
+    let otherwise = seen.otherwise();
+    assert!(otherwise.is_empty(), "seen otherwise: {:?}", otherwise);
     assert!(rounds < DEFAULT_ROUNDS || seen.cases() >= 1_000_000);
 }
 

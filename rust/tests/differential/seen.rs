@@ -1,7 +1,7 @@
 //! The tally of a run: how often each number was seen, and how often each function was called.
 
 use quic_version::{Refusal, WriteRefusal};
-use std::collections::BTreeMap;
+use std::collections::{BTreeMap, BTreeSet};
 
 /// Document 01's numbers, and document 02's 20.
 const NUMBERS: [u8; 34] = [
@@ -9,17 +9,34 @@ const NUMBERS: [u8; 34] = [
     61, 62, 63, 64, 65, 71, 72, 73, 74, 75,
 ];
 
+/// Every answer of the calls that choose from a list, make a word of it, or count: 0 and the
+/// refusals. All of them have to be seen, and no other.
+const ANSWERS: [(&str, &[u32]); 10] = [
+    ("qv_choose", &[0, 40, 41, 42]),
+    ("qv_choose_from_bytes", &[0, 40, 41, 42]),
+    ("qv_list_word", &[0, 40, 41]),
+    ("qv_list_word_from_bytes", &[0, 40, 41]),
+    ("qv_choose_by_word", &[0, 40, 41, 42]),
+    ("qv_choose_by_word_from_bytes", &[0, 40, 41, 42]),
+    ("qv_choose_from_word", &[0, 41, 42]),
+    ("qv_choose_from_word, joined lists", &[0, 40, 41, 42]),
+    ("qv_count_held", &[0, 40, 41]),
+    ("qv_count_held_from_bytes", &[0, 40, 41]),
+];
+
 /// What was seen.
 #[derive(Default)]
 pub struct Seen {
     numbers: BTreeMap<u32, usize>,
     functions: BTreeMap<&'static str, usize>,
+    answers: BTreeSet<(&'static str, u32)>,
 }
 
 impl Seen {
     pub fn note(&mut self, function: &'static str, number: u32) {
         *self.numbers.entry(number).or_insert(0) += 1;
         *self.functions.entry(function).or_insert(0) += 1;
+        self.answers.insert((function, number));
     }
 
     pub fn join(&mut self, other: Seen) {
@@ -29,6 +46,7 @@ impl Seen {
         for (function, count) in other.functions {
             *self.functions.entry(function).or_insert(0) += count;
         }
+        self.answers.extend(other.answers);
     }
 
     /// Comparisons in all.
@@ -40,6 +58,18 @@ impl Seen {
     pub fn never(&self) -> Vec<u8> {
         let seen = |number: &u8| self.numbers.contains_key(&u32::from(*number));
         NUMBERS.iter().copied().filter(|n| !seen(n)).collect()
+    }
+
+    /// Those functions of `ANSWERS` that have not seen what they have to see, with what they saw.
+    pub fn otherwise(&self) -> Vec<(&'static str, Vec<u32>)> {
+        let seen = |function: &str| -> Vec<u32> {
+            let of_it = self.answers.iter().filter(|(name, _)| *name == function);
+            of_it.map(|(_, number)| *number).collect()
+        };
+        let all = ANSWERS.iter().map(|(name, due)| (*name, seen(name), *due));
+        all.filter(|(_, seen, due)| seen != due)
+            .map(|(name, seen, _)| (name, seen))
+            .collect()
     }
 
     /// What was seen, to print.

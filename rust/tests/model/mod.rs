@@ -1,5 +1,5 @@
-//! A second reading of document 01, and of document 02 as far as it is there (C-13), in plain Rust,
-//! to compare the library with.
+//! A second reading of document 01, and of document 02 as far as it is there (C-13 to C-15), in
+//! plain Rust, to compare the library with.
 //!
 //! It is written from the paper's sentences with sets, slices and iterators;
 //! speed is no aim. Refusals are the paper's numbers. Quoted comments are
@@ -11,11 +11,13 @@ mod attempts;
 mod choices;
 mod completed;
 mod wire;
+mod words;
 
 pub use attempts::*;
 pub use choices::*;
 pub use completed::*;
 pub use wire::*;
+pub use words::*;
 
 /// "A datagram has 0 to 65,535 bytes."
 pub const MAX_DATAGRAM: usize = 65_535;

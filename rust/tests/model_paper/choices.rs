@@ -1,8 +1,8 @@
 //! Tables, pairs and choices: worked calls, slips, edges, the order of the
-//! refusals.
+//! refusals. Lists as words, and the second way to choose.
 
 use crate::model::*;
-use crate::random::in_fours;
+use crate::random::{in_fours, Random};
 
 // The worked calls.
 
@@ -129,4 +129,127 @@ fn server_order() {
     // Paired, but not in Available.
     let answer = server_choice(&[3], &[4, 3], &[(3, 4)], 3, Some(&good));
     assert_eq!(answer, Ok(Decision::Use(3)));
+}
+
+// Document 02, C-15: lists as words, and the second way to choose.
+
+/// The word of a list, the choice from the word and from the list, by both ways, and the count.
+#[track_caller]
+fn by_word(table: &[u32], list: &[u32], word: u64, choice: Result<u32, u8>, count: usize) {
+    assert_eq!(list_word(table, list), Ok(word));
+    assert_eq!(choose_from_word(table, word), choice);
+    assert_eq!(choose_by_word(table, list), choice);
+    assert_eq!(choose(table, list), choice);
+    assert_eq!(count_held(table, list), Ok(count));
+}
+
+#[test]
+fn p1_to_p3_by_words() {
+    let table = [14, 12, 10];
+    by_word(&table, &[10, 13, 14], 0b101, Ok(14), 2);
+    by_word(&table, &[], 0, Err(42), 0);
+    by_word(&table, &[13, 0x1a2a_3a4a], 0, Err(42), 0);
+}
+
+#[test]
+fn words_of_a_full_table() {
+    let table: Vec<u32> = (1..=64).collect();
+    by_word(&table, &[64], 1 << 63, Ok(64), 1);
+    by_word(&table, &[65, 64, 0, 64], 1 << 63, Ok(64), 1);
+    by_word(&table, &[1], 1, Ok(1), 1);
+    by_word(&table, &[33], 1 << 32, Ok(33), 1);
+    by_word(&table, &[64, 1], 1 << 63 | 1, Ok(1), 2);
+    let turned: Vec<u32> = (1..=64).rev().collect();
+    by_word(&table, &turned, u64::MAX, Ok(1), 64);
+    by_word(&turned, &table, u64::MAX, Ok(64), 64);
+    by_word(&turned, &[64, 63], 0b11, Ok(64), 2);
+    by_word(&table, &turned[..63], u64::MAX - 1, Ok(2), 63);
+}
+
+#[test]
+fn words_of_repeats_and_unheld_numbers() {
+    let table = [14, 12, 10];
+    by_word(&table, &[10, 10, 10], 0b100, Ok(10), 1);
+    by_word(&table, &[10, 12, 10, 12, 12], 0b110, Ok(12), 2);
+    let list = [0, 10, 0x1a2a_3a4a, 99, 12, 0, 10, 99];
+    by_word(&table, &list, 0b110, Ok(12), 2);
+    by_word(&[7], &[7, 7], 1, Ok(7), 1);
+}
+
+#[test]
+fn word_refusals() {
+    let long = vec![7; 16_383];
+    for table in [&[7][..], &[7, 7], &[], &[9]] {
+        assert_eq!(list_word(table, &long), Err(40));
+        assert_eq!(choose_by_word(table, &long), Err(40));
+        assert_eq!(count_held(table, &long), Err(40));
+    }
+    by_word(&[7], &long[1..], 1, Ok(7), 1);
+    by_word(&[9], &long[1..], 0, Err(42), 0);
+    let many: Vec<u32> = (1..=65).collect();
+    for table in [&many[..], &[7, 7], &[], &[7, 0], &[7, 0x1a2a_3a4a]] {
+        // 41 before 42.
+        for list in [&[7][..], &[9_000], &[], &long[1..]] {
+            assert_eq!(list_word(table, list), Err(41));
+            assert_eq!(choose_by_word(table, list), Err(41));
+            assert_eq!(count_held(table, list), Err(41));
+        }
+        for word in [0, 1, u64::MAX] {
+            assert_eq!(choose_from_word(table, word), Err(41));
+        }
+    }
+}
+
+#[test]
+fn words_with_bits_past_the_table() {
+    let table = [14, 12, 10];
+    assert_eq!(choose_from_word(&table, !0b111), Err(42));
+    assert_eq!(choose_from_word(&table, 1 << 3), Err(42));
+    assert_eq!(choose_from_word(&table, 1 << 63), Err(42));
+    assert_eq!(choose_from_word(&table, !0b11), Ok(10));
+    assert_eq!(choose_from_word(&table, 1 << 63 | 0b010), Ok(12));
+    assert_eq!(choose_from_word(&table, u64::MAX), Ok(14));
+}
+
+/// "Joining lists is joining words, where the joined list keeps within 40."
+#[test]
+fn joined_words() {
+    let table = [14, 12, 10];
+    let (one, other) = (list_word(&table, &[10, 13]), list_word(&table, &[12, 10]));
+    assert_eq!((one, other), (Ok(0b100), Ok(0b110)));
+    by_word(&table, &[10, 13, 12, 10], 0b100 | 0b110, Ok(12), 2);
+    let (one, other) = (vec![10; 8_191], vec![12; 8_192]);
+    by_word(&table, &one, 0b100, Ok(10), 1);
+    by_word(&table, &other, 0b010, Ok(12), 1);
+    let joined = [&one[..], &other].concat();
+    assert_eq!(list_word(&table, &joined), Err(40));
+    by_word(&table, &joined[1..], 0b110, Ok(12), 2);
+}
+
+/// "It must give the same choice, refusals included, as the plain way on every table and list."
+#[test]
+fn the_two_ways_agree() {
+    let mut random = Random::new(15);
+    for _ in 0..6_000 {
+        let (table, list) = random.choose_call();
+        assert_eq!(choose_by_word(&table, &list), choose(&table, &list));
+        let (table, list) = random.word_call();
+        assert_eq!(choose_by_word(&table, &list), choose(&table, &list));
+        let word = list_word(&table, &list);
+        let ones = word.map(|word| word.count_ones() as usize);
+        assert_eq!(ones, count_held(&table, &list));
+        let place = word.map(|word| word.trailing_zeros() as usize);
+        let chosen = place.and_then(|place| table.get(place).copied().ok_or(42));
+        assert_eq!(chosen, choose(&table, &list));
+        let (table, one, other) = random.joined_call();
+        let joined = [&one[..], &other].concat();
+        let words = (list_word(&table, &one), list_word(&table, &other));
+        if let (Ok(one), Ok(other), true) = (words.0, words.1, joined.len() <= 16_382) {
+            assert_eq!(list_word(&table, &joined), Ok(one | other));
+            assert_eq!(
+                choose_from_word(&table, one | other),
+                choose(&table, &joined)
+            );
+        }
+    }
 }

@@ -168,6 +168,79 @@ fn reach_of_the_limits() {
     assert!(started >= 20 && decided >= 20, "{} {}", started, decided);
 }
 
+/// Words of lists: every refusal, every place as the lowest one and as the only one, no place and
+/// all of them.
+#[test]
+fn reach_of_the_words() {
+    let mut random = Random::new(5);
+    let (mut words, mut choices, mut counts) = <(Reach, Reach, Reach)>::default();
+    let (mut lowest, mut alone) = (vec![0; MAX_TABLE], vec![0; MAX_TABLE]);
+    let (mut none, mut all, mut tables) = (0, 0, Sizes::default());
+    for _ in 0..20_000 {
+        let (table, list) = random.word_call();
+        tables.note(&table);
+        choices.note(&choose_by_word(&table, &list));
+        counts.note(&count_held(&table, &list));
+        let word = list_word(&table, &list);
+        words.note(&word);
+        match word {
+            Ok(0) => none += 1,
+            Ok(word) => {
+                let place = word.trailing_zeros() as usize;
+                lowest[place] += 1;
+                alone[place] += usize::from(word.is_power_of_two());
+                all += usize::from(word == u64::MAX);
+            }
+            Err(_) => {}
+        }
+    }
+    words.holds(&[0, 40, 41], 40);
+    choices.holds(&[0, 40, 41, 42], 40);
+    counts.holds(&[0, 40, 41], 40);
+    tables.hold(&(0..=66).collect::<Vec<usize>>(), 10);
+    assert!(lowest.iter().all(|n| *n >= 20), "{:?}", lowest);
+    assert!(alone.iter().all(|n| *n >= 10), "{:?}", alone);
+    assert!(none >= 400 && all >= 400, "{} {}", none, all);
+}
+
+/// Words of any origin: bits past the table beside others, and alone. Joined lists: the choice from
+/// either, as many entries together as there may be, and one more, with each list short enough.
+#[test]
+fn reach_of_joined_and_other_words() {
+    let mut random = Random::new(6);
+    let (mut choices, mut past_alone, mut past_beside) = <(Reach, Reach, Reach)>::default();
+    let (mut joined, mut sizes) = (Reach::default(), Sizes::default());
+    let (mut first, mut second, mut apart) = (0, 0, 0);
+    for _ in 0..20_000 {
+        let (table, word) = random.choose_from_word_call();
+        let answer = choose_from_word(&table, word);
+        choices.note(&answer);
+        let past = word.checked_shr(table.len() as u32).unwrap_or(0);
+        match word.trailing_zeros() as usize {
+            _ if past == 0 => {}
+            lowest if lowest < table.len() => past_beside.note(&answer),
+            _ => past_alone.note(&answer),
+        }
+        let (table, one, other) = random.joined_call();
+        let both = [&one[..], &other].concat();
+        sizes.note(&both);
+        let answer = choose_by_word(&table, &both);
+        joined.note(&answer);
+        let short = one.len() <= MAX_LIST && other.len() <= MAX_LIST;
+        apart += usize::from(short && answer == Err(40));
+        let (one, other) = (choose(&table, &one), choose(&table, &other));
+        first += usize::from(answer.is_ok() && answer == one && answer != other);
+        second += usize::from(answer.is_ok() && answer == other && answer != one);
+    }
+    choices.holds(&[0, 41, 42], 400);
+    past_alone.holds(&[41, 42], 200);
+    past_beside.holds(&[0, 41], 200);
+    joined.holds(&[0, 40, 41, 42], 40);
+    sizes.hold(&[0, 1, 16_382, 16_383], 40);
+    assert!(first >= 400 && second >= 400, "{} {}", first, second);
+    assert!(apart >= 40, "{}", apart);
+}
+
 /// Event lists: their reach, and the step by step answer against the
 /// statement on the whole list.
 #[test]

@@ -1,4 +1,4 @@
-//! Seeded inputs for document 01's calls, biased to the edges of its rules so
+//! Seeded inputs for the calls of documents 01 and 02, biased to the edges of their rules so
 //! that every refusal number comes up often.
 //!
 //! A test that uses this module declares `mod model;` beside `mod random;`:
@@ -13,6 +13,7 @@ mod choices;
 mod packet;
 mod versions;
 mod wire;
+mod words;
 
 pub use packet::{in_fours, information, long_packet};
 

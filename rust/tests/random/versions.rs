@@ -91,7 +91,7 @@ impl Random {
         table
     }
 
-    fn distinct(&mut self, entries: usize) -> Vec<u32> {
+    pub(super) fn distinct(&mut self, entries: usize) -> Vec<u32> {
         let mut versions = Vec::new();
         while versions.len() < entries {
             let v = self.plain_version_outside(&versions);

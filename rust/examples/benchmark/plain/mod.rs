@@ -5,11 +5,16 @@ mod attempts;
 mod choices;
 mod versions;
 mod wire;
+mod words;
 
 pub use attempts::PlainAttempt;
 pub use choices::{choose, choose_from_bytes, server_choice};
 pub use versions::{are_pairs, is_reserved, is_table};
 pub use wire::{read_header, read_information, write_information, write_version_negotiation};
+pub use words::{
+    choose_by_word, choose_by_word_from_bytes, choose_from_word, count_held, count_held_from_bytes,
+    list_word, list_word_from_bytes,
+};
 
 fn number(bytes: &[u8]) -> u32 {
     u32::from_be_bytes([bytes[0], bytes[1], bytes[2], bytes[3]])

@@ -1,6 +1,6 @@
 //! The rules of tables and pairs, and the choices.
 
-use super::{number, paired, plain, same, Compared, FOUND};
+use super::{check_number, number, paired, plain, same, Compared};
 use crate::{model, raw};
 use quic_version::{self as library, Decision};
 
@@ -24,16 +24,6 @@ pub fn check_are_pairs(pairs: &[(u32, u32)]) -> Compared {
     same("answer", raw::are_pairs(&pairs), u32::from(model))?;
     same("are_pairs", library::are_pairs(&pairs), model)?;
     Ok(0)
-}
-
-/// A call that leaves one number: answer, and the number left.
-fn check_number(model: &Result<u32, u8>, call: &dyn Fn(&mut u32) -> u32) -> Result<(), String> {
-    for found in FOUND {
-        let mut version = found;
-        same("answer", call(&mut version), number(model))?;
-        same("left", version, model.unwrap_or(found))?;
-    }
-    Ok(())
 }
 
 pub fn check_choose(table: &[u32], list: &[u32]) -> Compared {

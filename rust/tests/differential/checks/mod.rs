@@ -6,12 +6,14 @@ mod choices;
 mod damaged;
 mod paste;
 mod wire;
+mod words;
 
 pub use attempts::*;
 pub use choices::*;
 pub use damaged::*;
 pub use paste::Paste;
 pub use wire::*;
+pub use words::*;
 
 use crate::{model, raw, Pair};
 use quic_version::Refusal;
@@ -43,6 +45,43 @@ fn number<T>(answer: &Result<T, u8>) -> u32 {
         Ok(_) => 0,
         Err(no) => u32::from(*no),
     }
+}
+
+/// A number that a call leaves in a lent place.
+trait Lent: Copy + PartialEq + std::fmt::Debug {
+    /// One of `FOUND`, in every four bytes of the place.
+    fn found(found: u32) -> Self;
+}
+
+impl Lent for u32 {
+    fn found(found: u32) -> u32 {
+        found
+    }
+}
+
+impl Lent for u64 {
+    fn found(found: u32) -> u64 {
+        u64::from(found) << 32 | u64::from(found)
+    }
+}
+
+impl Lent for usize {
+    fn found(found: u32) -> usize {
+        u64::found(found) as usize
+    }
+}
+
+/// A call that leaves one number: answer, and the number left.
+fn check_number<T: Lent>(
+    model: &Result<T, u8>,
+    call: &dyn Fn(&mut T) -> u32,
+) -> Result<(), String> {
+    for found in FOUND.map(T::found) {
+        let mut left = found;
+        same("answer", call(&mut left), number(model))?;
+        same("left", left, model.unwrap_or(found))?;
+    }
+    Ok(())
 }
 
 fn paired(pairs: &[(u32, u32)]) -> Vec<Pair> {

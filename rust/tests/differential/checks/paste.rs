@@ -22,6 +22,12 @@ impl Paste for u32 {
     }
 }
 
+impl Paste for u64 {
+    fn paste(&self) -> String {
+        format!("{:#x}", self)
+    }
+}
+
 impl Paste for usize {
     fn paste(&self) -> String {
         self.to_string()

@@ -7,6 +7,12 @@ mod attempts;
 mod choices;
 mod tables;
 mod wire;
+mod words;
+
+/// A table of so many entries: 100 and the numbers that follow.
+fn versions(count: usize) -> Vec<u32> {
+    (100..).take(count).collect()
+}
 
 /// The crate's limits are those of the model, which the library is compared with.
 #[test]
@@ -46,6 +52,13 @@ fn empty_inputs() {
     check_are_pairs(&[]).unwrap();
     check_choose(&[], &[]).unwrap();
     check_choose_from_bytes(&[], &[]).unwrap();
+    check_list_word(&[], &[]).unwrap();
+    check_list_word_from_bytes(&[], &[]).unwrap();
+    check_choose_by_word(&[], &[]).unwrap();
+    check_choose_by_word_from_bytes(&[], &[]).unwrap();
+    check_choose_from_word(&[], 0).unwrap();
+    check_count_held(&[], &[]).unwrap();
+    check_count_held_from_bytes(&[], &[]).unwrap();
     check_server_choice(&[], &[], &[], 0, 0, &[]).unwrap();
     check_server_choice(&[1], &[1], &[], 1, 1, &[]).unwrap();
     check_start(&[], &[], 0, &[], &[]).unwrap();

@@ -1,5 +1,6 @@
 //! Tables and pairs at their limits, and each bit of the words that a start makes of them.
 
+use super::versions;
 use crate::checks::*;
 use crate::model::{MAX_PAIRS, MAX_TABLE};
 use crate::random;
@@ -10,10 +11,6 @@ fn first_flight() -> Vec<u8> {
     random::long_packet(0xc0, 1, &[7; 8], &[8; 8], &[0; MIN_ANSWERED_DATAGRAM])
 }
 
-fn versions(count: usize) -> Vec<u32> {
-    (100..).take(count).collect()
-}
-
 /// Every call that takes a table, with this one: 41 or 23 where it breaks its rule.
 fn check_table(table: &[u32]) {
     let (sure, last) = ([100], table.last().copied().unwrap_or(1));
@@ -21,6 +18,13 @@ fn check_table(table: &[u32]) {
     check_is_table(table).unwrap();
     check_choose(table, &[last]).unwrap();
     check_choose_from_bytes(table, &random::in_fours(&[last])).unwrap();
+    check_list_word(table, &[last]).unwrap();
+    check_list_word_from_bytes(table, &random::in_fours(&[last])).unwrap();
+    check_choose_by_word(table, &[last]).unwrap();
+    check_choose_by_word_from_bytes(table, &random::in_fours(&[last])).unwrap();
+    check_choose_from_word(table, 1 << 63).unwrap();
+    check_count_held(table, &[last]).unwrap();
+    check_count_held_from_bytes(table, &random::in_fours(&[last])).unwrap();
     check_write_version_negotiation(&first_flight(), table, 0, MAX_PACKET + 8).unwrap();
     check_server_choice(table, &sure, &[], last, 0, &[]).unwrap();
     check_server_choice(&sure, table, &[], 100, 1, &information).unwrap();

@@ -23,6 +23,7 @@ macro_rules! compare {
 mod attempts;
 mod choices;
 mod wire;
+mod words;
 
 /// So many rounds of all calls, on the inputs of one stream.
 pub fn one_stream(seen: &mut Seen, seed: u64, stream: usize, rounds: usize) {
@@ -30,6 +31,7 @@ pub fn one_stream(seen: &mut Seen, seed: u64, stream: usize, rounds: usize) {
     for _ in 0..rounds {
         wire::calls(seen, random, stream);
         choices::calls(seen, random, stream);
+        words::calls(seen, random, stream);
         attempts::calls(seen, random, stream);
     }
 }
