@@ -1,12 +1,14 @@
 -- The own list that the record keeps as words is document 01's.
-use Prim.Native.Nat.{ℕ, _+_, _*_}
+use Prim.Native.Nat.{ℕ, _+_, _*_, _≤_, _<_}
 use mathlib.Core.Bool.{Bool, true, false, cond, _||_, false≢true}
 use mathlib.Core.List.{List, [], _∷_, _++_}
 use mathlib.Core.Path.{_≡_, refl, ap}
 use lib.Dec.{eqb}
+use lib.ListN.{length, getD}
 use borrow.Author.Tests.{eqb-true}
 use Rattle.versions.specs.Table.{elem}
-use Rattle.versions.specs.Words.{bit, keepIf, entriesWhere, wordWhere, members}
+use Rattle.versions.specs.Words.{bitAt, bit, keepIf, entriesWhere, wordWhere, members}
+use Rattle.versions.proofs.Bits.{bit-where, bit-past}
 use Rattle.versions.proofs.Members.{members-where}
 use Rattle.attempt.specs.OwnList.{mayBeAnswered, ownList, wordFor, rowsFor, wordOf}
 
@@ -29,6 +31,17 @@ module _ (pairs : List (List ℕ)) (attempted : ℕ) where
       wordFor (v ∷ table) pairs attempted ≡ bit (mayBeAnswered pairs attempted v) + 2 * wordFor table pairs attempted
   unfolding wordFor wordWhere
   word-entry v table = refl
+
+-- Bit j of an entry's word tells whether table entry j may be answered when that entry is attempted; no bit is set past
+-- the table
+module _ (table : List ℕ) (pairs : List (List ℕ)) (attempted j : ℕ) where
+  pub row-bit : j < length table → bitAt (wordFor table pairs attempted) j ≡ mayBeAnswered pairs attempted (getD table j 0)
+  unfolding wordFor
+  row-bit h = bit-where (mayBeAnswered pairs attempted) table j h
+
+  pub row-past : length table ≤ j → bitAt (wordFor table pairs attempted) j ≡ false
+  unfolding wordFor
+  row-past h = bit-past (mayBeAnswered pairs attempted) table j h
 
 -- The members of the word are the own list
 pub members-word : (table : List ℕ) (pairs : List (List ℕ)) (v : ℕ) →
