@@ -309,7 +309,8 @@ uint32_t qv_choose_by_word_from_bytes(const uint32_t *table, size_t table_len,
 
 /*
  * The choice from a word of any origin, such as the words of several lists joined: the entry of the
- * table at the word's lowest set bit. Bits at or past the table's length change nothing.
+ * table at the word's lowest set bit. Bits at or past the table's length change nothing. Bit j is
+ * read as entry j of this table; that a word was made with another table cannot be told.
  * Refusals, in order: 41, 42 (no bit of a table entry is set). They leave *version as found. There
  * is no list here, so 40 is never given.
  */

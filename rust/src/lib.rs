@@ -1,7 +1,7 @@
 //! The QUIC version layer (RFC 8999, RFC 9368), proved.
 //!
-//! Both ends get a reader of datagram headers, a reader and a writer of Version Information, and
-//! the choice of a version from a list. A server gets a writer of Version Negotiation packets and
+//! Both ends get a reader of datagram headers, a reader and a writer of Version Information, the
+//! choice of a version from a list, and lists as words ([`list_word`]). A server gets a writer of Version Negotiation packets and
 //! the choice after a first flight. A client gets an [`Attempt`], from its first version to its
 //! end.
 //!

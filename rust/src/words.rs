@@ -79,7 +79,8 @@ pub fn choose_by_word_from_bytes(table: &[u32], bytes: &[u8]) -> Result<u32, Ref
 }
 
 /// The choice from a word of any origin, such as the words of several lists joined: the entry of
-/// the table at the word's lowest set bit. Bits at or past the table's length change nothing.
+/// the table at the word's lowest set bit. Bits at or past the table's length change nothing. Bit j
+/// is read as entry j of this table; that a word was made with another table cannot be told.
 ///
 /// # Errors
 ///

@@ -12,7 +12,7 @@ use Rattle.versions.proofs.Bits.{bit-where, bit-past}
 use Rattle.versions.proofs.Members.{members-where}
 use Rattle.attempt.specs.OwnList.{mayBeAnswered, ownList, wordFor, rowsFor, wordOf}
 
--- Entry by entry: the clauses that own list and word had as definitions of their own, before a set of bits had one
+-- Entry by entry: own list and word by their clauses
 module _ (pairs : List (List ℕ)) (attempted : ℕ) where
   pub own-list-empty : ownList [] pairs attempted ≡ []
   unfolding ownList entriesWhere
@@ -32,8 +32,8 @@ module _ (pairs : List (List ℕ)) (attempted : ℕ) where
   unfolding wordFor wordWhere
   word-entry v table = refl
 
--- Bit j of an entry's word tells whether table entry j may be answered when that entry is attempted; no bit is set past
--- the table
+-- Bit j of an entry's word tells whether table entry j may be answered when that entry is attempted; no bit is set at or
+-- past the table's length
 module _ (table : List ℕ) (pairs : List (List ℕ)) (attempted j : ℕ) where
   pub row-bit : j < length table → bitAt (wordFor table pairs attempted) j ≡ mayBeAnswered pairs attempted (getD table j 0)
   unfolding wordFor

@@ -1,4 +1,4 @@
--- The walks over a table: at each place i the rest of the table answers for the whole.
+-- Walks over a table: the word of a version at its first place, and what a walk from set bit to set bit has collected.
 use Prim.Native.Nat.{ℕ, zero, suc, _+_, _-_, _≤_, _<_, min}
 use mathlib.Core.Bool.{Bool, true, false, cond}
 use mathlib.Core.List.{List, [], _∷_, _++_, append-nil}

@@ -10,7 +10,7 @@ use refusals::Refusal;
 use versions::table::contains;
 use versions::table::is_table;
 
-// What a choice from a list answers: a refusal (40, 41, 42), or the chosen version.
+// What a choice answers: a refusal (40, 41, 42), or the chosen version.
 pub enum Choice {
     Refused(Refusal),
     Version(u32),

@@ -1,11 +1,11 @@
 -- The laws of lists as words. Document 02, C-15: "Joining lists is joining words, where the joined list keeps within
 -- 40. It must give the same choice, refusals included, as the plain way on every table and list." Where a law asks that
 -- the table keeps its rule: one that breaks it is a 41 of every call, unless the list is a 40.
-use Prim.Native.Nat.{ℕ, zero, suc, _+_, _*_, _/_, _^_, _≤_, _<_}
+use Prim.Native.Nat.{ℕ, zero, suc, _+_, _*_, _^_, _≤_, _<_}
 use mathlib.Core.Bool.{Bool, true, false, cond, _||_}
 use mathlib.Core.List.{List, [], _∷_, _++_}
 use mathlib.Core.Option.{Option, Option.none, Option.some, Option·none-ne-some}
-use mathlib.Core.Path.{_≡_, refl, sym, ap, ap₂, _∙_}
+use mathlib.Core.Path.{_≡_, refl, sym, ap, _∙_}
 use native.Mathlib.Omega.{arith}
 use lib.Bits.{bitOr}
 use lib.Count.{ones, trailingZeros}
@@ -16,8 +16,9 @@ use Rattle.refusals.specs.Reply.{refuse}
 use Rattle.refusals.specs.declared.Call.the-variants.{Reading}
 use Rattle.refusals.proofs.Rules.{refused-not-answered}
 use Rattle.versions.specs.Table.{elem, tableKeepsRule}
-use Rattle.versions.specs.Words.{wordBits, bitAt, bit, keepIf, wordWhere, members}
+use Rattle.versions.specs.Words.{wordBits, bitAt, bit, wordWhere, members}
 use Rattle.versions.proofs.Bits.{bit-where, bit-past, word-below, word-same, none-set, word-either, ones-where}
+use Rattle.versions.proofs.Members.{members-same}
 use Rattle.lists.specs.Limits.{maxList}
 use Rattle.lists.specs.Wire.{entryAt}
 use Rattle.choosing.specs.Choice.{orNothingInCommon, preferred, choose}
@@ -40,15 +41,6 @@ entry-past [] place h = refl
 entry-past (v ∷ t) zero h = absurd (omega arith)
 entry-past (v ∷ t) (suc place) h = entry-past t place (omega arith)
 
--- The members by two words are the same where the bits of the table's entries are
-
-members-same : (t : List ℕ) (a b : ℕ) → ((j : ℕ) → j < length t → bitAt a j ≡ bitAt b j) → members a t ≡ members b t
-unfolding members
-members-same [] a b same = refl
-members-same (v ∷ t) a b same =
-    ap₂ (λ (k : Bool) (vs : List ℕ). keepIf k v vs) (same 0 (omega arith))
-    (members-same t (a / 2) (b / 2) (λ j h. same (suc j) (omega arith)))
-
 -- What the bits of a list's word say
 module _ (t l : List ℕ) (j : ℕ) where
   -- "Each place of the table is a bit": bit j is set exactly where entry j occurs in the list
@@ -67,22 +59,34 @@ word-at-most t l = word-below (λ v. elem v l) t
 pub ones-are-held : (t l : List ℕ) → ones (heldWord t l) ≡ heldCount t l
 ones-are-held t l = ones-where (λ v. elem v l) t
 
--- "the most preferred member is the lowest set place of the word": the table entry there, and none where the word is 0
+-- "the most preferred member is the lowest set place of the word". Of any word: the table entry there, and none where that
+-- place is past the table
+lowest-member : (t : List ℕ) (w : ℕ) → tableKeepsRule t ≡ true →
+    entryAt t (trailingZeros wordBits w) ≡ preferred t (members w t)
+lowest-member t w kept = go (leb (length t) place) refl
+  where
+    place : ℕ
+    place = trailingZeros wordBits w
+
+    go : (b : Bool) → leb (length t) place ≡ b → entryAt t place ≡ preferred t (members w t)
+    go true e =
+        let past = leb-true (length t) place e in
+        entry-past t place past ∙ sym (lowest-past t w kept past)
+    go false e =
+        let there = leb-false (length t) place e in
+        entry-there t place there ∙ sym (lowest-there t w kept there)
+
+-- of a list's word: the preferred entry, and none where the word is 0
 pub lowest-is-preferred : (t l : List ℕ) → tableKeepsRule t ≡ true →
     entryAt t (trailingZeros wordBits (heldWord t l)) ≡ preferred t l
 lowest-is-preferred t l kept =
-    go (leb (length t) place) refl ∙ sym (preferred-by-membership t l (members (heldWord t l) t) (same-held t l))
-  where
-    place : ℕ
-    place = trailingZeros wordBits (heldWord t l)
+    lowest-member t (heldWord t l) kept ∙ sym (preferred-by-membership t l (members (heldWord t l) t) (same-held t l))
 
-    go : (b : Bool) → leb (length t) place ≡ b → entryAt t place ≡ preferred t (members (heldWord t l) t)
-    go true e =
-        let past = leb-true (length t) place e in
-        entry-past t place past ∙ sym (lowest-past t (heldWord t l) kept past)
-    go false e =
-        let there = leb-false (length t) place e in
-        entry-there t place there ∙ sym (lowest-there t (heldWord t l) kept there)
+-- of a word of any origin: so it is chosen from
+pub lowest-of-word : (t : List ℕ) (w : ℕ) → tableKeepsRule t ≡ true →
+    chooseFromWord t w ≡ orNothingInCommon (entryAt t (trailingZeros wordBits w))
+unfolding chooseFromWord
+lowest-of-word t w kept = rw (kept, lowest-member t w kept)
 
 -- The choice by a word is the choice
 

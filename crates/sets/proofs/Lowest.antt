@@ -1,59 +1,32 @@
 -- The choice along the code of the second way: from a list to its word, and from a word to the entry at its lowest set
 -- place.
 use Prim.Native.Nat.{ℕ, _/_, _≤_, _<_}
-use mathlib.Core.Bool.{Bool, true, false, not, cond, _&&_, _||_, and-true}
+use mathlib.Core.Bool.{Bool, true, false, not, cond, _&&_, and-true}
 use mathlib.Core.List.{List, [], _∷_}
 use mathlib.Core.Option.{Option, Option.none, Option.some}
 use mathlib.Core.Path.{_≡_, refl, sym, ap, _∙_}
 use native.Mathlib.Nat.{le-trans, lt-of-lt-of-le}
 use lib.Count.{ones, trailingZeros, trailing-of-zero}
-use lib.Dec.{eqb, ltb}
+use lib.Dec.{ltb}
 use lib.ListN.{length, getD}
-use borrow.Author.Tests.{eq-eqb, eqb-true, lt-ltb, le-ltb, ltb-false, not-true, not-false}
+use borrow.Author.Tests.{eq-eqb, lt-ltb, le-ltb, ltb-false, not-true, not-false}
 use Rattle.refusals.specs.Reply.{Reply.answered, refuse}
 use Rattle.refusals.specs.Rule.{clear}
 use Rattle.refusals.specs.declared.Call.the-variants.{Reading}
 use Rattle.refusals.proofs.Rules.{both-true, lowest-clear, lowest-number, answered-clear, answered-injective}
 use Rattle.versions.specs.Table.{elem, entriesKeepRule, tableKeepsRule}
-use Rattle.versions.specs.Words.{wordBits, bitAt, keepIf, entriesWhere, members}
+use Rattle.versions.specs.Words.{wordBits, bitAt, keepIf, members}
 use Rattle.versions.proofs.Bits.{ones-where}
 use Rattle.versions.proofs.Lists.{table-counts, table-entries}
 use Rattle.versions.proofs.Marked.{once, table-in-word}
-use Rattle.versions.proofs.Members.{members-where, members-held, members-first, members-none}
+use Rattle.versions.proofs.Members.{members-where, elem-where, members-held, members-first, members-none}
 use Rattle.lists.specs.Limits.{maxList}
 use Rattle.choosing.specs.Choice.{choiceRules, orNothingInCommon, preferred, choose}
 use Rattle.choosing.specs.Laws.{SameHeld}
 use Rattle.choosing.proofs.Laws.{choose-preferred, preferred-by-membership}
 use Rattle.sets.specs.Sets.{heldWord, heldCount, listWord, countHeld}
 
--- The members of a list's word
-
-elem-where : (f : ℕ → Bool) (ts : List ℕ) (v : ℕ) → elem v (entriesWhere f ts) ≡ (f v && elem v ts)
-unfolding elem entriesWhere
-elem-where f [] v = none-of (f v)
-  where
-    none-of : (b : Bool) → false ≡ (b && false)
-    none-of true = refl
-    none-of false = refl
-elem-where f (t ∷ ts) v = go (eqb t v) refl (elem-where f ts v)
-  where
-    rest : List ℕ
-    rest = entriesWhere f ts
-
-    -- v is t, or it is not
-    is-t : (b : Bool) → elem v rest ≡ (b && elem v ts) → elem v (keepIf b v rest) ≡ (b && true)
-    is-t true ih = rw (eq-eqb v v refl)
-    is-t false ih = ih
-
-    not-t : (b : Bool) → eqb t v ≡ false → elem v rest ≡ (f v && elem v ts) → elem v (keepIf b t rest) ≡ (f v && elem v ts)
-    not-t true e ih = rw e ih
-    not-t false e ih = ih
-
-    go : (b : Bool) → eqb t v ≡ b → elem v rest ≡ (f v && elem v ts) → elem v (keepIf (f t) t rest) ≡ (f v && (b || elem v ts))
-    go true e ih = rw (eqb-true t v e) (is-t (f v) ih)
-    go false e ih = not-t (f t) e ih
-
--- they are the table entries that the list holds
+-- The members of a list's word are the table entries that the list holds
 pub same-held : (t l : List ℕ) → SameHeld t l (members (heldWord t l) t)
 same-held t l v in-table =
     rw (members-where (λ v. elem v l) t, elem-where (λ v. elem v l) t v, in-table) (sym (and-true (elem v l)))

@@ -27,12 +27,13 @@ pub record Choices : Type 0 where
   pub P2-count : countHeld table [] ≡ answered 0
   -- P3, "list 13, 0x1a2a3a4a"
   pub P3-word : listWord table (13 ∷ 0x1a2a3a4a ∷ []) ≡ answered 0
+  pub P3-count : countHeld table (13 ∷ 0x1a2a3a4a ∷ []) ≡ answered 0
   -- a repeat is counted once
   pub repeats : countHeld table (12 ∷ 12 ∷ 12 ∷ []) ≡ answered 1
   -- a bit past the table is that of no entry, alone or beside another
   pub past : chooseFromWord table 8 ≡ refuse Reading 42
   pub past-beside : chooseFromWord table 12 ≡ answered 10
-  -- a broken table, whatever the word
+  -- a table that breaks its rule
   pub broken : chooseFromWord (14 ∷ 14 ∷ []) 1 ≡ refuse Reading 41
 
 pub choices : Choices
@@ -48,6 +49,7 @@ choices =
       P2 = refl;
       P2-count = refl;
       P3-word = refl;
+      P3-count = refl;
       repeats = refl;
       past = refl;
       past-beside = refl;

@@ -109,7 +109,7 @@ ones-where f (t ∷ ts) =
     kept true vs = omega arith
     kept false vs = omega arith
 
--- The walk from the last entry down: the word of the rest at i, doubled, with the bit of the entry before it
+-- The walk from the last entry down: the word of the entries after i, doubled, with the bit of entry i
 module _ (f : ℕ → Bool) (ts : List ℕ) (i word : ℕ) (e : word ≡ wordWhere f (drop (i + 1) ts)) (h : i < length ts) where
   pub word-grown : word * 2 + bit (f (getD ts i 0)) ≡ wordWhere f (drop i ts)
   unfolding wordWhere

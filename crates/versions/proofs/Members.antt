@@ -1,16 +1,16 @@
 -- The members by a word: the table entries whose bit is set. Those of the word of a test; the walk over a table with
 -- what is left of a word; and from set bit to set bit, the lowest first.
 use Prim.Native.Nat.{ℕ, zero, suc, _+_, _-_, _*_, _/_, _%_, _≤_, _<_}
-use mathlib.Core.Bool.{Bool, true, false, _||_, or-true}
+use mathlib.Core.Bool.{Bool, true, false, _&&_, _||_, or-true}
 use mathlib.Core.List.{List, [], _∷_}
-use mathlib.Core.Path.{_≡_, refl}
+use mathlib.Core.Path.{_≡_, refl, ap₂}
 use native.Mathlib.Nat.{min-zero, mod-lt, zero-min}
 use native.Mathlib.Omega.{arith}
 use lib.Bits.{bitAnd, and-step, and-self}
 use lib.Count.{trailingZeros, under}
 use lib.Dec.{eqb, lit<}
 use lib.ListN.{length, drop, getD, drop-of-length-le}
-use borrow.Author.Tests.{eq-eqb, ne-eqb}
+use borrow.Author.Tests.{eqb-true, eq-eqb, ne-eqb}
 use Rattle.versions.specs.Table.{elem}
 use Rattle.versions.specs.Words.{bitAt, bit, keepIf, entriesWhere, wordWhere, members}
 use Rattle.versions.proofs.Bits.{lowest-bit, rest-bits, bit-says}
@@ -23,6 +23,40 @@ members-where f [] = refl
 members-where f (t ∷ ts) =
     let w = wordWhere f ts in
     rw (lowest-bit (f t) w, bit-says (f t), rest-bits (f t) w, members-where f ts)
+
+-- One of those entries is an entry of the table that the test holds of
+pub elem-where : (f : ℕ → Bool) (ts : List ℕ) (v : ℕ) → elem v (entriesWhere f ts) ≡ (f v && elem v ts)
+unfolding elem entriesWhere
+elem-where f [] v = none-of (f v)
+  where
+    none-of : (b : Bool) → false ≡ (b && false)
+    none-of true = refl
+    none-of false = refl
+elem-where f (t ∷ ts) v = go (eqb t v) refl (elem-where f ts v)
+  where
+    rest : List ℕ
+    rest = entriesWhere f ts
+
+    -- v is t, or it is not
+    is-t : (b : Bool) → elem v rest ≡ (b && elem v ts) → elem v (keepIf b v rest) ≡ (b && true)
+    is-t true ih = rw (eq-eqb v v refl)
+    is-t false ih = ih
+
+    not-t : (b : Bool) → eqb t v ≡ false → elem v rest ≡ (f v && elem v ts) → elem v (keepIf b t rest) ≡ (f v && elem v ts)
+    not-t true e ih = rw e ih
+    not-t false e ih = ih
+
+    go : (b : Bool) → eqb t v ≡ b → elem v rest ≡ (f v && elem v ts) → elem v (keepIf (f t) t rest) ≡ (f v && (b || elem v ts))
+    go true e ih = rw (eqb-true t v e) (is-t (f v) ih)
+    go false e ih = not-t (f t) e ih
+
+-- The members by two words are the same where the bits of the table's entries are
+pub members-same : (t : List ℕ) (a b : ℕ) → ((j : ℕ) → j < length t → bitAt a j ≡ bitAt b j) → members a t ≡ members b t
+unfolding members
+members-same [] a b same = refl
+members-same (v ∷ t) a b same =
+    ap₂ (λ (k : Bool) (vs : List ℕ). keepIf k v vs) (same 0 (omega arith))
+    (members-same t (a / 2) (b / 2) (λ j h. same (suc j) (omega arith)))
 
 -- The members are entries of the table,
 pub members-held : (word : ℕ) (table : List ℕ) (v : ℕ) → elem v (members word table) ≡ true → elem v table ≡ true

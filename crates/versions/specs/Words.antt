@@ -15,10 +15,12 @@ abbrev pub bitAt : ℕ → ℕ → Bool
 bitAt word zero = eqb (word % 2) 1
 bitAt word (suc j) = bitAt (word / 2) j
 
+-- A bit as a number
 abbrev pub bit : Bool → ℕ
 bit true = 1
 bit false = 0
 
+-- A list with an entry in front, where a test holds of it
 abbrev pub keepIf : Bool → ℕ → List ℕ → List ℕ
 keepIf true v vs = v ∷ vs
 keepIf false v vs = vs

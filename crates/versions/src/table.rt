@@ -40,8 +40,8 @@ pub fn contains(list: &[u32], version: u32) -> bool
     false
 }
 
-// Whether the version occurs in the list. For short lists: it goes over the whole list, with no early exit, so that the
-// compiler compares several entries at a time.
+// Whether the version occurs in the list. For short lists, and for searches that mostly find nothing: it goes over the
+// whole list, with no early exit, so that the compiler compares several entries at a time.
 pub fn holds(list: &[u32], version: u32) -> bool
     ensures { λ r. ⌜ r ≡ elem version (now (list .entry)) ⌝ }
 {

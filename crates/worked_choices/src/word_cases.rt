@@ -32,12 +32,12 @@ fn full_tables() {
     let versions = counted();
     let last = versions[MAX_TABLE - 1];
     by_word(
-        b"table of 64, list its last entry: ",
+        b"full table, list its last entry: ",
         most(&versions),
         &[last],
     );
     by_word(
-        b"table of 64, list all of them and one more: ",
+        b"full table, list all of it and one more: ",
         most(&versions),
         &versions,
     );

@@ -19,7 +19,7 @@ struct Case {
 }
 
 impl Case {
-    /// What is called with what: `list` is the list's size in words.
+    /// What is called with what: `list` is the text for the list's size.
     fn name(&self, call: &str, list: &str) -> String {
         let entries = self.table.len();
         format!("{}{}, table of {}, {}", call, list, entries, self.held)

@@ -9,7 +9,7 @@ const NUMBERS: [u8; 34] = [
     61, 62, 63, 64, 65, 71, 72, 73, 74, 75,
 ];
 
-/// Every answer of the calls that choose from a list, make a word of it, or count: 0 and the
+/// Every answer of the calls that choose from a list or a word, make a word or count: 0 and the
 /// refusals. All of them have to be seen, and no other.
 const ANSWERS: [(&str, &[u32]); 10] = [
     ("qv_choose", &[0, 40, 41, 42]),
@@ -19,7 +19,7 @@ const ANSWERS: [(&str, &[u32]); 10] = [
     ("qv_choose_by_word", &[0, 40, 41, 42]),
     ("qv_choose_by_word_from_bytes", &[0, 40, 41, 42]),
     ("qv_choose_from_word", &[0, 41, 42]),
-    ("qv_choose_from_word, joined lists", &[0, 40, 41, 42]),
+    ("qv_choose_by_word, joined lists", &[0, 40, 41, 42]),
     ("qv_count_held", &[0, 40, 41]),
     ("qv_count_held_from_bytes", &[0, 40, 41]),
 ];
@@ -60,7 +60,8 @@ impl Seen {
         NUMBERS.iter().copied().filter(|n| !seen(n)).collect()
     }
 
-    /// Those functions of `ANSWERS` that have not seen what they have to see, with what they saw.
+    /// Those functions of `ANSWERS` that have seen other answers than they have to, with what they
+    /// saw.
     pub fn otherwise(&self) -> Vec<(&'static str, Vec<u32>)> {
         let seen = |function: &str| -> Vec<u32> {
             let of_it = self.answers.iter().filter(|(name, _)| *name == function);

@@ -38,7 +38,8 @@ fn places(table: &[u32], word: u64) -> BTreeSet<usize> {
     (0..table.len()).filter(set).collect()
 }
 
-/// "the most preferred member is the lowest set place of the word". 41, 42.
+/// "the most preferred member is the lowest set place of the word". 41, 42. Bits past the table, which
+/// the papers leave free, are no place's (docs/DECISIONS.md).
 pub fn choose_from_word(table: &[u32], word: u64) -> Result<u32, u8> {
     if !is_table(table) {
         return Err(41);

@@ -50,8 +50,8 @@ fn each_place_of_each_table() {
     }
 }
 
-/// Versions that differ from an entry in one bit: one of them is the entry beside it, the others are
-/// none.
+/// Versions that differ from an entry in one bit. 1 and 0x8000_0001 do so from each other; all others
+/// are no entry.
 #[test]
 fn versions_one_bit_from_an_entry() {
     let table = [0x6b33_43cf, 1, 0x8000_0001];
@@ -84,8 +84,8 @@ fn bytes_left_over() {
     }
 }
 
-/// Each single bit, the bits from each place on and up to it, none and all, with tables of each
-/// length: bits at or past the table's length change nothing.
+/// Each single bit, all but it, the bits from each place on and up to it, none and all, with tables
+/// of each length: bits at or past the table's length change nothing.
 #[test]
 fn words_of_any_origin() {
     for count in 0..=MAX_TABLE + 2 {

@@ -20,7 +20,7 @@ pub fn calls(seen: &mut Seen, random: &mut Random, stream: usize) {
     compare!(
         seen,
         stream,
-        "qv_choose_from_word, joined lists",
+        "qv_choose_by_word, joined lists",
         check_joined(&table[..], &one[..], &other[..])
     );
 }
