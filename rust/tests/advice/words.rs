@@ -20,7 +20,7 @@ fn word_of_another_table() {
     );
 }
 
-/// "For one list, take `choose`. It answers the same".
+/// "For one list `choose` is enough. It answers the same".
 #[test]
 fn one_list_by_either_way() {
     let table = [14, 12, 10];
