@@ -5,22 +5,22 @@ use mathlib.Core.List.{List}
 use mathlib.Core.Option.{Option.none, Option.some}
 use mathlib.Core.Path.{_≡_}
 use lib.ListN.{length, drop, getD, drop-of-length-le}
-use borrow.Author.Tests.{lt-ltb, le-ltb}
 use Rattle.refusals.specs.Reply.{refuse}
 use Rattle.refusals.specs.declared.Call.the-variants.{Reading}
-use Rattle.choosing.specs.Choice.{choose, preferred}
+use Rattle.choosing.specs.Choice.{choose, orNothingInCommon, preferred}
 use Rattle.lists.specs.Limits.{maxList}
 use Rattle.versions.specs.Table.{elem, tableKeepsRule}
 use Rattle.versions.proofs.Lists.{drop-next}
+use Rattle.choosing.proofs.Judged.{judged-too-long, judged-bad-table}
 
 module _ (table list : List ℕ) where
   pub list-too-long : maxList < length list → choose table list ≡ refuse Reading 40
   unfolding choose
-  list-too-long l = rw (lt-ltb _ _ l)
+  list-too-long l = judged-too-long table list (orNothingInCommon (preferred table list)) l
 
   pub bad-table : length list ≤ maxList → tableKeepsRule table ≡ false → choose table list ≡ refuse Reading 41
   unfolding choose
-  bad-table l t = rw (le-ltb _ _ l, t)
+  bad-table l t = judged-bad-table table list (orNothingInCommon (preferred table list)) l t
 
 -- `preferred`, from a list
 module _ (list table : List ℕ) (i : ℕ) where

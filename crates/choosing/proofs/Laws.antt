@@ -14,12 +14,13 @@ use mathlib.Core.Path.{_≡_, refl, sym, ap, _∙_}
 use borrow.Author.Tests.{eq-eqb, eqb-true, le-ltb}
 use lib.Dec.{eqb}
 use lib.ListN.{length, length-append}
-use Rattle.refusals.specs.Reply.{Reply, Reply.refused, Reply.answered, refuse}
-use Rattle.refusals.specs.declared.Call.the-variants.{Reading}
+use Rattle.refusals.specs.Reply.{Reply, Reply.refused, Reply.answered}
 use Rattle.choosing.specs.Choice.{choose, preferred, orNothingInCommon}
 use Rattle.choosing.specs.Laws.{SameHeld, choiceList}
 use Rattle.lists.specs.Limits.{maxList}
 use Rattle.versions.specs.Table.{elem, tableKeepsRule}
+use Rattle.choosing.proofs.Chosen.{bad-table}
+use Rattle.choosing.proofs.Judged.{judged-clear}
 
 -- What a list holds
 
@@ -132,12 +133,7 @@ preferred-joined (v ∷ t) a b =
 pub choose-preferred : (t l : List ℕ) → tableKeepsRule t ≡ true → length l ≤ maxList →
     choose t l ≡ orNothingInCommon (preferred t l)
 unfolding choose
-choose-preferred t l keeps fits = rw (le-ltb maxList (length l) fits, keeps)
-
--- By a table that breaks its rule: nothing, from every list
-choose-broken : (t l : List ℕ) → tableKeepsRule t ≡ false → length l ≤ maxList → choose t l ≡ refuse Reading 41
-unfolding choose
-choose-broken t l breaks fits = rw (le-ltb maxList (length l) fits, breaks)
+choose-preferred t l keeps fits = judged-clear t l (orNothingInCommon (preferred t l)) fits keeps
 
 -- "order, repeats and numbers that the table does not hold never change the answer", as one law: nothing counts
 -- but which entries of the table the list holds
@@ -232,4 +228,4 @@ choice-joined t a b fits = go (tableKeepsRule t) refl
           listed b keeps (omega (arith, fits, length-append a b)),
           preferred-joined t a b,
         )
-    go false breaks = choose-broken t (a ++ b) breaks fits ∙ sym (choose-broken t chosen breaks chosen-fits)
+    go false breaks = bad-table t (a ++ b) fits breaks ∙ sym (bad-table t chosen chosen-fits breaks)

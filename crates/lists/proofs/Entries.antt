@@ -62,6 +62,19 @@ entryAt-drop [] (suc place) = refl
 entryAt-drop (v ∷ vs) zero = refl
 entryAt-drop (v ∷ vs) (suc place) = entryAt-drop vs place
 
+-- Of a list of numbers: the entry at a place, or none past its end
+pub entryAt-there : (vs : List ℕ) (place : ℕ) → place < length vs → entryAt vs place ≡ some (getD vs place 0)
+unfolding entryAt
+entryAt-there [] place h = absurd (omega arith)
+entryAt-there (v ∷ vs) zero h = refl
+entryAt-there (v ∷ vs) (suc place) h = entryAt-there vs place (omega arith)
+
+pub entryAt-past : (vs : List ℕ) (place : ℕ) → length vs ≤ place → entryAt vs place ≡ none
+unfolding entryAt
+entryAt-past [] place h = refl
+entryAt-past (v ∷ vs) zero h = absurd (omega arith)
+entryAt-past (v ∷ vs) (suc place) h = entryAt-past vs place (omega arith)
+
 entryAt-entries : (s : List ℕ) (place : ℕ)
     → entryAt (entries s) place ≡ entryAt (entries (drop (place * versionBytes) s)) 0
 entryAt-entries s place = entryAt-drop (entries s) place ∙ ap (λ (l : List ℕ). entryAt l 0) (drop-entries place s)

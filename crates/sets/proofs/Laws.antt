@@ -1,7 +1,7 @@
 -- The laws of lists as words. Document 02, C-15: "Joining lists is joining words, where the joined list keeps within
 -- 40. It must give the same choice, refusals included, as the plain way on every table and list." Where a law asks that
 -- the table keeps its rule: one that breaks it is a 41 of every call, unless the list is a 40.
-use Prim.Native.Nat.{ℕ, zero, suc, _+_, _*_, _^_, _≤_, _<_}
+use Prim.Native.Nat.{ℕ, _+_, _*_, _^_, _≤_, _<_}
 use mathlib.Core.Bool.{Bool, true, false, cond, _||_}
 use mathlib.Core.List.{List, [], _∷_, _++_}
 use mathlib.Core.Option.{Option, Option.none, Option.some, Option·none-ne-some}
@@ -11,8 +11,8 @@ use lib.Bits.{bitOr}
 use lib.Count.{ones, trailingZeros}
 use lib.Dec.{leb}
 use lib.ListN.{length, getD, length-append}
-use borrow.Author.Tests.{leb-true, leb-false, le-ltb}
-use Rattle.refusals.specs.Reply.{refuse}
+use borrow.Author.Tests.{leb-true, leb-false}
+use Rattle.refusals.specs.Reply.{Reply.answered, refuse}
 use Rattle.refusals.specs.declared.Call.the-variants.{Reading}
 use Rattle.refusals.proofs.Rules.{refused-not-answered}
 use Rattle.versions.specs.Table.{elem, tableKeepsRule}
@@ -21,25 +21,12 @@ use Rattle.versions.proofs.Bits.{bit-where, bit-past, word-below, word-same, no
 use Rattle.versions.proofs.Members.{members-same}
 use Rattle.lists.specs.Limits.{maxList}
 use Rattle.lists.specs.Wire.{entryAt}
+use Rattle.lists.proofs.Entries.{entryAt-there, entryAt-past}
 use Rattle.choosing.specs.Choice.{orNothingInCommon, preferred, choose}
 use Rattle.choosing.proofs.Chosen.{bad-table}
-use Rattle.choosing.proofs.Laws.{elem-append, preferred-by-membership, choose-preferred}
+use Rattle.choosing.proofs.Laws.{elem-append, choose-preferred}
 use Rattle.sets.specs.Sets.{heldWord, heldCount, listWord, chooseFromWord, joined}
-use Rattle.sets.proofs.Lowest.{same-held, lowest-there, lowest-past}
-
--- An entry at a place
-
-entry-there : (t : List ℕ) (place : ℕ) → place < length t → entryAt t place ≡ some (getD t place 0)
-unfolding entryAt
-entry-there [] place h = absurd (omega arith)
-entry-there (v ∷ t) zero h = refl
-entry-there (v ∷ t) (suc place) h = entry-there t place (omega arith)
-
-entry-past : (t : List ℕ) (place : ℕ) → length t ≤ place → entryAt t place ≡ none
-unfolding entryAt
-entry-past [] place h = refl
-entry-past (v ∷ t) zero h = absurd (omega arith)
-entry-past (v ∷ t) (suc place) h = entry-past t place (omega arith)
+use Rattle.sets.proofs.Lowest.{preferred-by-word, lowest-there, lowest-past, word-bad-table, word-made}
 
 -- What the bits of a list's word say
 module _ (t l : List ℕ) (j : ℕ) where
@@ -71,16 +58,16 @@ lowest-member t w kept = go (leb (length t) place) refl
     go : (b : Bool) → leb (length t) place ≡ b → entryAt t place ≡ preferred t (members w t)
     go true e =
         let past = leb-true (length t) place e in
-        entry-past t place past ∙ sym (lowest-past t w kept past)
+        entryAt-past t place past ∙ sym (lowest-past t w kept past)
     go false e =
         let there = leb-false (length t) place e in
-        entry-there t place there ∙ sym (lowest-there t w kept there)
+        entryAt-there t place there ∙ sym (lowest-there t w kept there)
 
 -- of a list's word: the preferred entry, and none where the word is 0
 pub lowest-is-preferred : (t l : List ℕ) → tableKeepsRule t ≡ true →
     entryAt t (trailingZeros wordBits (heldWord t l)) ≡ preferred t l
 lowest-is-preferred t l kept =
-    lowest-member t (heldWord t l) kept ∙ sym (preferred-by-membership t l (members (heldWord t l) t) (same-held t l))
+    lowest-member t (heldWord t l) kept ∙ sym (preferred-by-word t l)
 
 -- of a word of any origin: so it is chosen from
 pub lowest-of-word : (t : List ℕ) (w : ℕ) → tableKeepsRule t ≡ true →
@@ -96,9 +83,7 @@ unfolding chooseFromWord
 by-word t l fits = go (tableKeepsRule t) refl
   where
     go : (k : Bool) → tableKeepsRule t ≡ k → choose t l ≡ chooseFromWord t (heldWord t l)
-    go true kept =
-        choose-preferred t l kept fits ∙
-        rw (kept, preferred-by-membership t l (members (heldWord t l) t) (same-held t l))
+    go true kept = choose-preferred t l kept fits ∙ rw (kept, preferred-by-word t l)
     go false breaks = rw (bad-table t l fits breaks, breaks)
 
 -- from a word of any origin: bits at or past the table's length change nothing
@@ -154,24 +139,19 @@ word-joined t a b =
 -- of what the calls answer, refusals included,
 pub list-word-joined : (t a b : List ℕ) → length (a ++ b) ≤ maxList →
     listWord t (a ++ b) ≡ joined (listWord t a) (listWord t b)
-unfolding listWord
 list-word-joined t a b fits = go (tableKeepsRule t) refl
   where
+    fits-a : length a ≤ maxList
+    fits-a = omega (arith, fits, length-append a b)
+
+    fits-b : length b ≤ maxList
+    fits-b = omega (arith, fits, length-append a b)
+
     go : (k : Bool) → tableKeepsRule t ≡ k → listWord t (a ++ b) ≡ joined (listWord t a) (listWord t b)
     go true kept =
-        rw (
-          le-ltb maxList (length (a ++ b)) fits,
-          le-ltb maxList (length a) (omega (arith, fits, length-append a b)),
-          le-ltb maxList (length b) (omega (arith, fits, length-append a b)),
-          kept,
-          word-joined t a b,
-        )
-    go false breaks =
-        rw (
-          le-ltb maxList (length (a ++ b)) fits,
-          le-ltb maxList (length a) (omega (arith, fits, length-append a b)),
-          breaks,
-        )
+        rw (word-made t (a ++ b) fits kept, word-made t a fits-a kept, word-made t b fits-b kept)
+        (ap answered (word-joined t a b))
+    go false breaks = rw (word-bad-table t (a ++ b) fits breaks, word-bad-table t a fits-a breaks)
 
 -- of the choice
 pub choice-from-joined : (t a b : List ℕ) → length (a ++ b) ≤ maxList →

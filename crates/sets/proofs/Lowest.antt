@@ -5,11 +5,11 @@ use mathlib.Core.Bool.{Bool, true, false, not, cond, _&&_, and-true}
 use mathlib.Core.List.{List, [], _∷_}
 use mathlib.Core.Option.{Option, Option.none, Option.some}
 use mathlib.Core.Path.{_≡_, refl, sym, ap, _∙_}
-use native.Mathlib.Nat.{le-trans, lt-of-lt-of-le}
+use native.Mathlib.Nat.{lt-of-lt-of-le}
 use lib.Count.{ones, trailingZeros, trailing-of-zero}
 use lib.Dec.{ltb}
 use lib.ListN.{length, getD}
-use borrow.Author.Tests.{eq-eqb, lt-ltb, le-ltb, ltb-false, not-true, not-false}
+use borrow.Author.Tests.{eq-eqb, ltb-false, not-true, not-false}
 use Rattle.refusals.specs.Reply.{Reply.answered, refuse}
 use Rattle.refusals.specs.Rule.{clear}
 use Rattle.refusals.specs.declared.Call.the-variants.{Reading}
@@ -17,19 +17,24 @@ use Rattle.refusals.proofs.Rules.{both-true, lowest-clear, lowest-number, answe
 use Rattle.versions.specs.Table.{elem, entriesKeepRule, tableKeepsRule}
 use Rattle.versions.specs.Words.{wordBits, bitAt, keepIf, members}
 use Rattle.versions.proofs.Bits.{ones-where}
-use Rattle.versions.proofs.Lists.{table-counts, table-entries}
-use Rattle.versions.proofs.Marked.{once, table-in-word}
+use Rattle.versions.proofs.Lists.{table-entries}
+use Rattle.versions.proofs.Marked.{once, kept-in-word}
 use Rattle.versions.proofs.Members.{members-where, elem-where, members-held, members-first, members-none}
 use Rattle.lists.specs.Limits.{maxList}
 use Rattle.choosing.specs.Choice.{choiceRules, orNothingInCommon, preferred, choose}
 use Rattle.choosing.specs.Laws.{SameHeld}
+use Rattle.choosing.proofs.Judged.{judged-too-long, judged-bad-table, judged-clear}
 use Rattle.choosing.proofs.Laws.{choose-preferred, preferred-by-membership}
 use Rattle.sets.specs.Sets.{heldWord, heldCount, listWord, countHeld}
 
 -- The members of a list's word are the table entries that the list holds
-pub same-held : (t l : List ℕ) → SameHeld t l (members (heldWord t l) t)
+same-held : (t l : List ℕ) → SameHeld t l (members (heldWord t l) t)
 same-held t l v in-table =
     rw (members-where (λ v. elem v l) t, elem-where (λ v. elem v l) t v, in-table) (sym (and-true (elem v l)))
+
+-- so the same is preferred
+pub preferred-by-word : (t l : List ℕ) → preferred t l ≡ preferred t (members (heldWord t l) t)
+preferred-by-word t l = preferred-by-membership t l (members (heldWord t l) t) (same-held t l)
 
 -- The most preferred member is the first
 
@@ -38,7 +43,7 @@ first [] = none
 first (v ∷ vs) = some v
 
 -- a list that holds nothing
-pub preferred-empty : (t : List ℕ) → preferred t [] ≡ none
+preferred-empty : (t : List ℕ) → preferred t [] ≡ none
 unfolding preferred elem
 preferred-empty [] = refl
 preferred-empty (v ∷ t) = preferred-empty t
@@ -65,33 +70,30 @@ preferred-members (v ∷ t) w k =
 
 -- The entry at the lowest set place of a word; or no entry is there
 module _ (t : List ℕ) (w : ℕ) (kept : tableKeepsRule t ≡ true) where
-  few : length t ≤ wordBits
-  few = le-trans (table-counts t kept .1) table-in-word
-
   pub lowest-there : trailingZeros wordBits w < length t → preferred t (members w t) ≡ some (getD t (trailingZeros wordBits w) 0)
   unfolding first
   lowest-there h =
-      preferred-members t w (table-entries t kept) ∙ ap first (members-first wordBits w t (lt-of-lt-of-le h few) h)
+      preferred-members t w (table-entries t kept) ∙ ap first (members-first wordBits w t (lt-of-lt-of-le h (kept-in-word t kept)) h)
 
   pub lowest-past : length t ≤ trailingZeros wordBits w → preferred t (members w t) ≡ none
   lowest-past h = ap (preferred t) (members-none wordBits w t h) ∙ preferred-empty t
 
   pub lowest-of-zero : w ≡ 0 → preferred t (members w t) ≡ none
-  lowest-of-zero e = lowest-past (rw (e, trailing-of-zero wordBits) few)
+  lowest-of-zero e = lowest-past (rw (e, trailing-of-zero wordBits) (kept-in-word t kept))
 
 -- The word of a list: its refusals in order, then the word
 module _ (t l : List ℕ) where
-  pub list-too-long : maxList < length l → listWord t l ≡ refuse Reading 40
+  pub word-too-long : maxList < length l → listWord t l ≡ refuse Reading 40
   unfolding listWord
-  list-too-long h = rw (lt-ltb _ _ h)
+  word-too-long = judged-too-long t l (answered (heldWord t l))
 
-  pub bad-table : length l ≤ maxList → tableKeepsRule t ≡ false → listWord t l ≡ refuse Reading 41
+  pub word-bad-table : length l ≤ maxList → tableKeepsRule t ≡ false → listWord t l ≡ refuse Reading 41
   unfolding listWord
-  bad-table h b = rw (le-ltb _ _ h, b)
+  word-bad-table = judged-bad-table t l (answered (heldWord t l))
 
   pub word-made : length l ≤ maxList → tableKeepsRule t ≡ true → listWord t l ≡ answered (heldWord t l)
   unfolding listWord
-  word-made h k = rw (le-ltb _ _ h, k)
+  word-made = judged-clear t l (answered (heldWord t l))
 
 -- What it answered tells of the table, the list and the choice
 module _ (t l : List ℕ) where
@@ -111,7 +113,7 @@ module _ (t l : List ℕ) where
     unfolding listWord
     none-applies = answered-clear Reading (heldWord t l) w (choiceRules t l) e
 
-    pub word-is : w ≡ heldWord t l
+    word-is : w ≡ heldWord t l
     unfolding listWord
     word-is =
         answered-injective w (heldWord t l) (e ∙ lowest-clear (refuse Reading) (answered (heldWord t l)) (choiceRules t l) none-applies)
@@ -126,7 +128,7 @@ module _ (t l : List ℕ) where
 
     pub chosen-by-word : orNothingInCommon (preferred t (members w t)) ≡ choose t l
     chosen-by-word =
-        rw (word-is, ← preferred-by-membership t l (members (heldWord t l) t) (same-held t l), choose-preferred t l table-kept within)
+        rw (word-is, ← preferred-by-word t l, choose-preferred t l table-kept within)
 
     pub counted-by-word : answered (ones w) ≡ countHeld t l
     unfolding countHeld

@@ -4,14 +4,12 @@ use Prim.Native.Nat.{ℕ, _+_, _-_, _*_, _^_, _≤_, _<_}
 use mathlib.Core.Bool.{true}
 use mathlib.Core.List.{List}
 use mathlib.Core.Path.{_≡_, ap, _∙_}
-use native.Mathlib.Nat.{le-trans}
 use native.Mathlib.Omega.{arith}
 use lib.ListN.{length, drop, getD, drop-of-length-le}
 use Rattle.versions.specs.Table.{elem, tableKeepsRule}
 use Rattle.versions.specs.Words.{wordBits, bit, wordWhere}
 use Rattle.versions.proofs.Bits.{word-grown, word-fits}
-use Rattle.versions.proofs.Lists.{table-counts}
-use Rattle.versions.proofs.Marked.{table-in-word}
+use Rattle.versions.proofs.Marked.{kept-in-word}
 use Rattle.sets.specs.Sets.{heldWord}
 
 pub walk-begins : (t l : List ℕ) → 0 ≡ heldWord (drop (length t) t) l
@@ -46,6 +44,4 @@ module _ (t l : List ℕ) (i word : ℕ) (turn : Turn t l i word) where
     next-word = ap (λ (n : ℕ). word * 2 + n) e ∙ word-grown (λ v. elem v l) t next word after in-table
 
     pub next-fits : word * 2 + b < 2 ^ wordBits
-    next-fits =
-        let few : length t ≤ wordBits = le-trans (table-counts t (turn .kept) .1) table-in-word in
-        rw e (word-fits (λ v. elem v l) t next word after in-table wordBits few)
+    next-fits = rw e (word-fits (λ v. elem v l) t next word after in-table wordBits (kept-in-word t (turn .kept)))

@@ -1,7 +1,7 @@
 -- Worked calls by words: P1 to P3 of document 01, tables of 64 entries, repeats, bits past the table, and the limit of a
 -- list. Each is computed from the definitions alone.
-use Prim.Native.Nat.{ℕ, zero, suc, _^_, _-_}
-use mathlib.Core.List.{List, [], _∷_, _++_}
+use Prim.Native.Nat.{_^_, _-_}
+use mathlib.Core.List.{[], _∷_, _++_}
 use mathlib.Core.Path.{_≡_, refl}
 use lib.Count.{trailingZeros}
 use lib.ListN.{replicate}
@@ -10,6 +10,7 @@ use Rattle.refusals.specs.declared.Call.the-variants.{Reading}
 use Rattle.versions.specs.Table.{elem, entriesKeepRule, tableKeepsRule}
 use Rattle.versions.specs.Version.{reserved, usable}
 use Rattle.versions.specs.Words.{wordBits, entriesWhere, wordWhere, members}
+use Rattle.versions.proofs.Worked.{down-from}
 use Rattle.choosing.specs.Choice.{preferred}
 use Rattle.choosing.proofs.Worked.{table}
 use Rattle.sets.specs.Sets.{listWord, countHeld, chooseFromWord}
@@ -56,11 +57,7 @@ choices =
       broken = refl;
     }
 
--- The versions from n down to 1
-abbrev down-from : ℕ → List ℕ
-down-from zero = []
-down-from (suc n) = suc n ∷ down-from n
-
+-- Tables of 64 entries: the versions from 64 down to 1
 pub record FullTables : Type 0 where
   -- the only match is at the last place
   pub last-word : listWord (down-from 64) (99 ∷ 1 ∷ []) ≡ answered (2 ^ 63)

@@ -24,8 +24,11 @@ use Rattle.versions.proofs.Repeated.{or-swap}
 pub table-in-word : maxTable ≤ wordBits
 table-in-word = omega arith
 
+pub kept-in-word : (table : List ℕ) → tableKeepsRule table ≡ true → length table ≤ wordBits
+kept-in-word table kept = le-trans (table-counts table kept .1) table-in-word
+
 pub word-of-all : (table : List ℕ) → tableKeepsRule table ≡ true → take wordBits table ≡ table
-word-of-all table kept = take-all wordBits table (le-trans (table-counts table kept .1) table-in-word)
+word-of-all table kept = take-all wordBits table (kept-in-word table kept)
 
 -- As a number: no bit is set past the first n entries, and none where there is no place
 

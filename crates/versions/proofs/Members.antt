@@ -1,9 +1,9 @@
 -- The members by a word: the table entries whose bit is set. Those of the word of a test; the walk over a table with
 -- what is left of a word; and from set bit to set bit, the lowest first.
 use Prim.Native.Nat.{ℕ, zero, suc, _+_, _-_, _*_, _/_, _%_, _≤_, _<_}
-use mathlib.Core.Bool.{Bool, true, false, _&&_, _||_, or-true}
+use mathlib.Core.Bool.{Bool, true, false, _&&_, _||_, and-false, or-true}
 use mathlib.Core.List.{List, [], _∷_}
-use mathlib.Core.Path.{_≡_, refl, ap₂}
+use mathlib.Core.Path.{_≡_, refl, sym, ap₂}
 use native.Mathlib.Nat.{min-zero, mod-lt, zero-min}
 use native.Mathlib.Omega.{arith}
 use lib.Bits.{bitAnd, and-step, and-self}
@@ -27,11 +27,7 @@ members-where f (t ∷ ts) =
 -- One of those entries is an entry of the table that the test holds of
 pub elem-where : (f : ℕ → Bool) (ts : List ℕ) (v : ℕ) → elem v (entriesWhere f ts) ≡ (f v && elem v ts)
 unfolding elem entriesWhere
-elem-where f [] v = none-of (f v)
-  where
-    none-of : (b : Bool) → false ≡ (b && false)
-    none-of true = refl
-    none-of false = refl
+elem-where f [] v = sym (and-false (f v))
 elem-where f (t ∷ ts) v = go (eqb t v) refl (elem-where f ts v)
   where
     rest : List ℕ

@@ -10,7 +10,7 @@ use Rattle.versions.specs.Table.{elem, entriesKeepRule, tableKeepsRule}
 use Rattle.versions.specs.Version.{reserved, usable}
 
 -- The versions from n down to 1
-abbrev down-from : ℕ → List ℕ
+abbrev pub down-from : ℕ → List ℕ
 down-from zero = []
 down-from (suc n) = suc n ∷ down-from n
 

@@ -3,12 +3,12 @@ use mathlib.Core.Path.{sym, ap, _∙_}
 use borrow.Author.Needs.{needs}
 use borrow.Author.Tests.{not-true, not-false}
 use Rattle.refusals.specs.Reply.{Reply.answered}
-use Rattle.sets.proofs.Lowest.{list-too-long, bad-table, word-made}
+use Rattle.sets.proofs.Lowest.{word-too-long, word-bad-table, word-made}
 use Rattle.sets.proofs.list_word.Statement.{statement}
 use Rattle.sets.proofs.list_word.Tie as tie
 
 returns : tie.Need-returns
-returns c = sym (list-too-long _ _ (c .if1 .taken))
+returns c = sym (word-too-long _ _ (c .if1 .taken))
 
 is-table-requires : tie.Need-is-table-requires
 is-table-requires c κs = search needs
@@ -16,7 +16,7 @@ is-table-requires c κs = search needs
 returns-2 : tie.Need-returns-2
 returns-2 c =
     sym
-    (bad-table _ _ (c .before .before .if1 .left)
+    (word-bad-table _ _ (c .before .before .if1 .left)
     (sym (c .before .is-table .ensures) ∙ not-true _ (c .if2 .taken)))
 
 word-in-requires : tie.Need-word-in-requires

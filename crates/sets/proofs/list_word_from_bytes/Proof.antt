@@ -4,12 +4,12 @@ use borrow.Author.Needs.{needs}
 use borrow.Author.Tests.{not-true, not-false}
 use Rattle.refusals.specs.Reply.{Reply.answered}
 use Rattle.lists.proofs.Entries.{length-entries}
-use Rattle.sets.proofs.Lowest.{list-too-long, bad-table, word-made}
+use Rattle.sets.proofs.Lowest.{word-too-long, word-bad-table, word-made}
 use Rattle.sets.proofs.list_word_from_bytes.Statement.{statement}
 use Rattle.sets.proofs.list_word_from_bytes.Tie as tie
 
 returns : tie.Need-returns
-returns c = sym (list-too-long _ _ (rw (length-entries _) (c .if1 .taken)))
+returns c = sym (word-too-long _ _ (rw (length-entries _) (c .if1 .taken)))
 
 is-table-requires : tie.Need-is-table-requires
 is-table-requires c κs = search needs
@@ -17,7 +17,7 @@ is-table-requires c κs = search needs
 returns-2 : tie.Need-returns-2
 returns-2 c =
     sym
-    (bad-table _ _ (rw (length-entries _) (c .before .before .if1 .left))
+    (word-bad-table _ _ (rw (length-entries _) (c .before .before .if1 .left))
     (sym (c .before .is-table .ensures) ∙ not-true _ (c .if2 .taken)))
 
 word-in-bytes-requires : tie.Need-word-in-bytes-requires
