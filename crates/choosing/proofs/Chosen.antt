@@ -1,14 +1,16 @@
 -- `choose` along the code of a choice: its refusals in order, then what is preferred.
-use Prim.Native.Nat.{ℕ, _+_, _<_, _≤_}
-use mathlib.Core.Bool.{true, false}
-use mathlib.Core.List.{List}
+use Prim.Native.Nat.{ℕ, suc, _+_, _<_, _≤_}
+use mathlib.Core.Bool.{Bool, true, false, cond}
+use mathlib.Core.List.{List, [], _∷_}
 use mathlib.Core.Option.{Option.none, Option.some}
-use mathlib.Core.Path.{_≡_}
+use mathlib.Core.Path.{_≡_, refl}
 use lib.ListN.{length, drop, getD, drop-of-length-le}
 use Rattle.refusals.specs.Reply.{refuse}
 use Rattle.refusals.specs.declared.Call.the-variants.{Reading}
 use Rattle.choosing.specs.Choice.{choose, orNothingInCommon, preferred}
 use Rattle.lists.specs.Limits.{maxList}
+use Rattle.lists.specs.Wire.{entryAt}
+use Rattle.slots.specs.First.{firstPlace}
 use Rattle.versions.specs.Table.{elem, tableKeepsRule}
 use Rattle.versions.proofs.Lists.{drop-next}
 use Rattle.choosing.proofs.Judged.{judged-too-long, judged-bad-table}
@@ -35,3 +37,14 @@ module _ (list table : List ℕ) (i : ℕ) where
   pub preferred-end : length table ≤ i → preferred (drop i table) list ≡ none
   unfolding preferred
   preferred-end h = rw (drop-of-length-le table h)
+
+-- What is preferred is the table's entry at the first place that the list holds
+pub preferred-place : (table list : List ℕ) → preferred table list ≡ entryAt table (firstPlace table list)
+unfolding preferred entryAt firstPlace
+preferred-place [] list = refl
+preferred-place (v ∷ table) list = go (elem v list) (preferred-place table list)
+  where
+    go : (b : Bool) → preferred table list ≡ entryAt table (firstPlace table list)
+        → cond b (some v) (preferred table list) ≡ entryAt (v ∷ table) (cond b 0 (suc (firstPlace table list)))
+    go true rest = refl
+    go false rest = rest

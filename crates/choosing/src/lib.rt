@@ -5,8 +5,8 @@ ghost use Rattle.lists.specs.Wire.{entries, entryReply};
 use lists::Entry;
 use lists::MAX_LIST;
 use lists::VERSION_BYTES;
-use lists::contains_in_bytes;
 use refusals::Refusal;
+use slots::first_in_bytes;
 use versions::table::contains;
 use versions::table::is_table;
 
@@ -35,15 +35,12 @@ pub fn prefer(table: &[u32], list: &[u32]) -> Entry
 pub fn prefer_in_bytes(table: &[u32], bytes: &[u8]) -> Entry
     ensures { λ r. ⌜ entryReply r ≡ preferred (now (table .entry)) (entries (now (bytes .entry))) ⌝ }
 {
-    let mut i = 0;
-    while i < table.len() {
-        let version = table[i];
-        if contains_in_bytes(bytes, version) {
-            return Entry::Version(version);
-        }
-        i += 1;
+    let place = first_in_bytes(table, bytes);
+    if table.len() <= place {
+        return Entry::Nothing;
     }
-    Entry::Nothing
+    let version = table[place];
+    Entry::Version(version)
 }
 
 // The choice from a list. Refusals, in order: 40 (over MAX_LIST entries), 41 (the table breaks its rule),

@@ -5,3 +5,7 @@ use Prim.Native.Nat.{ℕ}
 -- entries"
 abbrev pub maxList : ℕ
 maxList = 16382
+
+-- Of no paper: how many entries a search compares at a time. No public promise speaks of it
+abbrev pub block : ℕ
+block = 64

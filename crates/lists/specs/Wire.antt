@@ -21,6 +21,10 @@ number a b c d = a * 0x1000000 + (b * 0x10000 + (c * 0x100 + d))
 abbrev pub numberAt : List ℕ → ℕ → ℕ
 numberAt bytes at = number (getD bytes at 0) (getD bytes (at + 1) 0) (getD bytes (at + 2) 0) (getD bytes (at + 3) 0)
 
+-- The number of the same four bytes in the other order, as a little-endian machine reads them by one load
+unfoldable pub turned : ℕ → ℕ
+turned v = number (v % 256) (v / 0x100 % 256) (v / 0x10000 % 256) (v / 0x1000000)
+
 -- The entries of a list on the wire: whole fours; 1 to 3 bytes left over are no entry
 unfoldable pub entries : List ℕ → List ℕ
 entries [] = []

@@ -1,69 +1,48 @@
--- `prefer_in_bytes` meets its contract. The loop's invariant: the rest of the table answers for the whole.
-use Prim.Native.Nat.{_≤_, _-_}
-use mathlib.Core.Path.{_≡_, sym, _∙_}
-use native.Mathlib.Omega.{arith}
+-- `prefer_in_bytes`: the table's entry at the first place that the list holds.
+use Prim.Native.Nat.{ℕ}
+use mathlib.Core.Option.{Option.none, Option.some}
+use mathlib.Core.Path.{_≡_, sym, ap, _∙_}
 use borrow.Author.Needs.{needs}
-use lib.ListN.{length, drop}
+use denote.Ref.{now}
+use lib.ListN.{getD}
+use Rattle.lists.specs.Wire.{entries, entryAt}
+use Rattle.lists.proofs.Entries.{entryAt-there, entryAt-past}
 use Rattle.choosing.specs.Choice.{preferred}
-use Rattle.lists.specs.Wire.{entries}
-use Rattle.choosing.proofs.Chosen.{preferred-here, preferred-next, preferred-end}
+use Rattle.choosing.proofs.Chosen.{preferred-place}
 use Rattle.choosing.proofs.prefer_in_bytes.Statement.{statement}
 use Rattle.choosing.proofs.prefer_in_bytes.Tie as tie
 
-abbrev Inv-loop : tie.InvT-loop
-Inv-loop table bytes i₀ i = (i ≤ length table) × (preferred table (entries bytes) ≡ preferred (drop i table) (entries bytes))
+first-in-bytes-requires : tie.Need-first-in-bytes-requires
+first-in-bytes-requires c κs = search needs
 
-abbrev μ-loop : tie.MeasureT-loop
-μ-loop table bytes i₀ i = length table - i
+-- What is preferred, by the place that the call answered
+at-place : (c : tie.After-first-in-bytes)
+    → preferred (now (c .before .before .before .args .table)) (entries (now (c .before .before .before .args .bytes)))
+    ≡ entryAt (now (c .before .before .before .args .table)) (c .first-in-bytes .result)
+at-place c =
+    let args = c .before .before .before .args in
+    preferred-place (now (args .table)) (entries (now (args .bytes))) ∙
+    ap (entryAt (now (args .table))) (sym (c .first-in-bytes .ensures))
 
-loop-holds : tie.Need-loop-holds Inv-loop μ-loop
-loop-holds c = search needs
+returns : tie.Need-returns
+returns c =
+    let told = c .before in
+    sym (at-place told ∙ entryAt-past (now (told .before .before .before .args .table)) (told .first-in-bytes .result) (c .if1 .taken))
 
-mul-version : tie.Need-mul-version Inv-loop μ-loop
+mul-version : tie.Need-mul-version
 mul-version c = search needs
 
-shared-slice-read-version : tie.Need-shared-slice-read-version Inv-loop μ-loop
-shared-slice-read-version c = omega arith
+shared-slice-read-version : tie.Need-shared-slice-read-version
+shared-slice-read-version c = search needs
 
-contains-in-bytes-requires : tie.Need-contains-in-bytes-requires Inv-loop μ-loop
-contains-in-bytes-requires c κs = search needs
-
-returns : tie.Need-returns Inv-loop μ-loop
-returns c =
+returns-2 : tie.Need-returns-2
+returns-2 c =
+    let told = c .before .before in
     sym
-    (c .before .before .before .before .loop .inv .1 ∙
-    preferred-here _ _ _ (c .before .before .before .loop-test .taken)
-    (sym (c .before .contains-in-bytes .ensures) ∙ c .if1 .taken))
-
-add-i : tie.Need-add-i Inv-loop μ-loop
-add-i c = omega arith
-
-loop-less : tie.Need-loop-less Inv-loop μ-loop
-loop-less c = omega arith
-
-loop-again : tie.Need-loop-again Inv-loop μ-loop
-loop-again c = (
-  omega arith,
-  c .before .before .before .before .loop .inv .1 ∙
-      preferred-next _ _ _ (c .before .before .before .loop-test .taken)
-      (sym (c .before .contains-in-bytes .ensures) ∙ c .if1 .left),
-)
-
-returns-2 : tie.Need-returns-2 Inv-loop μ-loop
-returns-2 c = sym (c .before .loop .inv .1 ∙ preferred-end _ _ _ (c .loop-test .left))
+    (at-place told ∙
+    entryAt-there (now (told .before .before .before .args .table)) (told .first-in-bytes .result) (c .before .if1 .left))
 
 pub prefer-in-bytes-spec : {M : Type 1} → statement M
 prefer-in-bytes-spec =
     tie.close
-    (tie.spec
-    Inv-loop
-    μ-loop
-    loop-holds
-    mul-version
-    shared-slice-read-version
-    contains-in-bytes-requires
-    returns
-    add-i
-    loop-less
-    loop-again
-    returns-2)
+    (tie.spec first-in-bytes-requires returns mul-version shared-slice-read-version returns-2)

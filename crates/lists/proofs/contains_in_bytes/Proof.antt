@@ -1,12 +1,13 @@
 -- `contains_in_bytes`: the entries from the place on answer for the whole list.
-use Prim.Native.Nat.{_+_, _*_, _-_, _/_, _≤_}
-use mathlib.Core.Path.{_≡_, refl, sym, _∙_}
+use Prim.Native.Nat.{_+_, _-_, _/_, _≤_}
+use mathlib.Core.Bool.{Bool, _||_, or-true}
+use mathlib.Core.Path.{_≡_, refl, sym, ap, _∙_}
 use native.Mathlib.Omega.{arith}
 use lib.ListN.{length, drop}
 use denote.Ref.{now}
 use Rattle.versions.specs.Table.{elem}
-use Rattle.lists.specs.Wire.{entries, numberAt, versionBytes}
-use Rattle.lists.proofs.Entries.{elem-found, elem-passed, elem-end}
+use Rattle.lists.specs.Limits.{block}
+use Rattle.lists.specs.Wire.{entries, versionBytes}
 use Rattle.lists.proofs.contains_in_bytes.Statement.{statement}
 use Rattle.lists.proofs.contains_in_bytes.Tie as tie
 
@@ -14,7 +15,7 @@ abbrev Inv-loop : tie.InvT-loop
 Inv-loop bytes version count i₀ i =
     (i ≤ count)
     × (count ≡ length bytes / versionBytes)
-    × (elem version (entries bytes) ≡ elem version (entries (drop (i * versionBytes) bytes)))
+    × (elem version (entries bytes) ≡ elem version (drop i (entries bytes)))
 
 abbrev μ-loop : tie.MeasureT-loop
 μ-loop bytes version count i₀ i = count - i
@@ -22,19 +23,21 @@ abbrev μ-loop : tie.MeasureT-loop
 loop-holds : tie.Need-loop-holds Inv-loop μ-loop
 loop-holds c = (omega arith, refl, refl)
 
-mul-number-at : tie.Need-mul-number-at Inv-loop μ-loop
-mul-number-at c = omega arith
+sub-loop : tie.Need-sub-loop Inv-loop μ-loop
+sub-loop c = omega arith
 
-number-at-requires : tie.Need-number-at-requires Inv-loop μ-loop
-number-at-requires c κs = omega arith
+block-contains-requires : tie.Need-block-contains-requires Inv-loop μ-loop
+block-contains-requires c κs = omega arith
+
+-- What the block says, or the entries behind it
+behind : (c : tie.After-block-contains Inv-loop μ-loop)
+    → elem (c .before .before .before .before .args .version) (entries (now (c .before .before .before .before .args .bytes)))
+    ≡ (c .block-contains .result || elem (c .before .before .before .before .args .version)
+    (drop (c .before .before .loop .i + block) (entries (now (c .before .before .before .before .args .bytes)))))
+behind c = c .before .before .loop .inv .2 ∙ c .block-contains .ensures
 
 returns : tie.Need-returns Inv-loop μ-loop
-returns c =
-    let here = c .before .before .before in
-    let args = here .before .before .args in
-    let same = sym (c .before .number-at .ensures) ∙ c .if1 .taken in
-    let found = elem-found (args .version) (now (args .bytes)) (here .loop .i * versionBytes) (omega arith) same in
-    sym (here .loop .inv .2 ∙ found)
+returns c = sym (rw (c .if1 .taken) at (behind (c .before)))
 
 add-i : tie.Need-add-i Inv-loop μ-loop
 add-i c = omega arith
@@ -43,20 +46,13 @@ loop-less : tie.Need-loop-less Inv-loop μ-loop
 loop-less c = omega arith
 
 loop-again : tie.Need-loop-again Inv-loop μ-loop
-loop-again c =
-    let here = c .before .before .before in
-    let args = here .before .before .args in
-    let next : here .loop .i * versionBytes + versionBytes ≡ (here .loop .i + 1) * versionBytes = omega arith in
-    let k = here .loop .i * versionBytes in
-    let other : numberAt (now (args .bytes)) k ≡ args .version → ⊥ = λ e. c .if1 .left (c .before .number-at .ensures ∙ e) in
-    let passed = elem-passed (args .version) (now (args .bytes)) k (omega arith) other in
-    (omega arith, refl, here .loop .inv .2 ∙ rw next at passed)
+loop-again c = (omega arith, refl, rw (c .if1 .left) at (behind (c .before)))
+
+rest-contains-requires : tie.Need-rest-contains-requires Inv-loop μ-loop
+rest-contains-requires c κs = omega arith
 
 returns-2 : tie.Need-returns-2 Inv-loop μ-loop
-returns-2 c =
-    let here = c .before in
-    let args = here .before .before .args in
-    sym (here .loop .inv .2 ∙ elem-end (args .version) (now (args .bytes)) (here .loop .i * versionBytes) (omega arith))
+returns-2 c = c .rest-contains .ensures ∙ sym (c .before .before .loop .inv .2)
 
 pub contains-in-bytes-spec : {M : Type 1} → statement M
 contains-in-bytes-spec =
@@ -65,10 +61,11 @@ contains-in-bytes-spec =
     Inv-loop
     μ-loop
     loop-holds
-    mul-number-at
-    number-at-requires
+    sub-loop
+    block-contains-requires
     returns
     add-i
     loop-less
     loop-again
+    rest-contains-requires
     returns-2)
