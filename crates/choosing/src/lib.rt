@@ -39,8 +39,8 @@ pub fn prefer_in_bytes(table: &[u32], bytes: &[u8]) -> Entry
     if table.len() <= place {
         return Entry::Nothing;
     }
-    let version = table[place];
-    Entry::Version(version)
+    let chosen = table[place];
+    Entry::Version(chosen)
 }
 
 // The choice from a list. Refusals, in order: 40 (over MAX_LIST entries), 41 (the table breaks its rule),

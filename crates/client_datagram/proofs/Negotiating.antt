@@ -2,7 +2,6 @@
 use Prim.Native.Nat.{ℕ, _+_, _-_, _≤_}
 use mathlib.Core.Bool.{true, false}
 use mathlib.Core.List.{List}
-use mathlib.Core.Option.{Option.none, Option.some}
 use mathlib.Core.Path.{_≡_}
 use native.Mathlib.Omega.{arith}
 use lib.ListN.{length, take, drop}
@@ -12,9 +11,9 @@ use Rattle.lists.specs.declared.Span.{Span}
 use Rattle.versions.proofs.Lists.{part-rest}
 use Rattle.invariants.specs.Header.{isReadableNegotiation, destinationID, sourceID, restOf, listed}
 use Rattle.invariants.specs.Header.{destinationLength, sourceLength, sourceStart, restStart}
-use Rattle.attempt.specs.Attempt.{tableOf, destinationOf, sourceOf, put}
+use Rattle.attempt.specs.Attempt.{tableOf, destinationOf, sourceOf}
 use Rattle.invariants.specs.Parts.{Parts}
-use Rattle.attempt.specs.Step.{unchanged, closed, after, Effect.acts, isLate, otherConnection, onDatagram}
+use Rattle.attempt.specs.Step.{unchanged, actOn, isLate, otherConnection, onDatagram}
 use Rattle.attempt.specs.declared.Attempt.{Attempt}
 
 -- The parts
@@ -71,11 +70,6 @@ module _ (a : Attempt) (d : List ℕ) where
         lists-original h = rw (readable, intime, ours, h)
 
         module _ (unlisted : elem (a .original) (listed d) ≡ false) where
-          pub acts-on : (v : ℕ) → preferred (tableOf a) (listed d) ≡ some v →
-              after (put a v true (a .heard) (a .end)) (acts v) ≡ onDatagram a d
+          pub acts-on : actOn a (preferred (tableOf a) (listed d)) ≡ onDatagram a d
           unfolding onDatagram
-          acts-on v e = rw (readable, intime, ours, unlisted, e)
-
-          pub nothing-left : preferred (tableOf a) (listed d) ≡ none → closed a 65 ≡ onDatagram a d
-          unfolding onDatagram
-          nothing-left e = rw (readable, intime, ours, unlisted, e)
+          acts-on = rw (readable, intime, ours, unlisted)

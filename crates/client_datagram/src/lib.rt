@@ -1,7 +1,10 @@
 // A datagram at an attempt, judged (RFC 9000 section 6.2, RFC 9368 section 2.1): 61 to 65, or the attempt acts on it.
 ghost use mathlib.Core.Bool.{true};
 ghost use mathlib.Core.Path.{_≡_};
-ghost use Rattle.attempt.specs.Step.{isLate, onDatagram, countsFit, stepOfAny};
+ghost use Rattle.choosing.specs.Choice.{preferred};
+ghost use Rattle.lists.specs.Wire.{entries};
+ghost use Rattle.attempt.specs.Attempt.{tableOf};
+ghost use Rattle.attempt.specs.Step.{actOn, isLate, onDatagram, countsFit, stepOfAny};
 ghost use Rattle.attempt.specs.declared.Event.the-variants.{Datagram};
 ghost use Rattle.invariants.specs.Parts.{Parts};
 ghost use Rattle.client_verdict.specs.Verdicts.{applied};
@@ -79,9 +82,18 @@ fn on_negotiation(
     if contains_in_bytes(&datagram[start..], attempt.original) {
         return Verdict::Unchanged(Refusal::LISTS_ORIGINAL);
     }
+    act_on(attempt, &datagram[start..])
+}
+
+// The choice from the packet's list, 65 where there is none. It stands apart from the tests: the compiler then sees that
+// nothing on their way is written, and copies the record nowhere.
+fn act_on(attempt: Attempt, list: &[u8]) -> Verdict
+    requires { ⌜ countsFit attempt ≡ true ⌝ }
+    ensures { λ r. ⌜ applied attempt r ≡ actOn attempt (preferred (tableOf attempt) (entries (now (list .entry)))) ⌝ }
+{
     let table = attempt.table;
     let count = attempt.table_len;
-    match prefer_in_bytes(&table[..count], &datagram[start..]) {
+    match prefer_in_bytes(&table[..count], list) {
         Entry::Version(version) => Verdict::Acted(version),
         Entry::Nothing => Verdict::Closed(Refusal::NO_VERSION_LEFT),
     }

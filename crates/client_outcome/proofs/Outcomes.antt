@@ -1,13 +1,12 @@
 -- An outcome, along the code of the step: the choice made again, 72 to 75, information that is missing, refused, read.
 use Prim.Native.Nat.{ℕ, _≤_, _<_, _/_}
-use mathlib.Core.Bool.{Bool, true, false, not}
-use mathlib.Core.List.{List, [], _∷_, _++_, append-nil, Option·toList}
-use mathlib.Core.Option.{Option, Option.none, Option.some}
+use mathlib.Core.Bool.{Bool, true, false, not, or-true, or-false}
+use mathlib.Core.List.{List, [], _∷_, _++_}
 use mathlib.Core.Path.{_≡_, refl, sym, ap, _∙_}
 use native.Mathlib.Omega.{arith}
 use lib.Dec.{eqb}
 use lib.ListN.{length}
-use borrow.Author.Tests.{ne-eqb}
+use borrow.Author.Tests.{eq-eqb, ne-eqb}
 use Rattle.refusals.specs.Reply.{refuse}
 use Rattle.refusals.specs.Rule.{Rule._when_, lowest}
 use Rattle.refusals.specs.declared.Call.the-variants.{Reading}
@@ -17,7 +16,7 @@ use Rattle.lists.specs.Wire.{entries, versionBytes}
 use Rattle.lists.specs.declared.Span.{Span}
 use Rattle.lists.proofs.Entries.{length-entries}
 use Rattle.choosing.specs.Choice.{preferred}
-use Rattle.choosing.proofs.Laws.{preferred-joined}
+use Rattle.choosing.proofs.Laws.{elem-append}
 use Rattle.information.specs.Information.{chosenOf, availableOf, formRules, senderRules, versionsIn, readInformation}
 use Rattle.information.specs.declared.Presence.{Presence}
 use Rattle.information.specs.declared.Presence.the-variants.{Given}
@@ -37,36 +36,15 @@ no-entries s h = let e : length s / versionBytes ≡ 0 = omega arith in rw (leng
 pub some-entries : (s : List ℕ) → versionBytes ≤ length s → eqb (length (entries s)) 0 ≡ false
 some-entries s h = rw (length-entries s) (ne-eqb (length s / versionBytes) 0 (omega arith))
 
--- The choice made again
+-- The choice made again: Available with the version in use behind it
 
-preferred-nil : (t : List ℕ) → preferred t [] ≡ none
-unfolding preferred elem
-preferred-nil [] = refl
-preferred-nil (v ∷ t) = preferred-nil t
+pub listed-in-use : (v u : ℕ) (l : List ℕ) → v ≡ u → elem v (l ++ (u ∷ [])) ≡ true
+unfolding elem
+listed-in-use v u l e = elem-append v l (u ∷ []) ∙ rw (eq-eqb u v (sym e)) (or-true (elem v l))
 
--- what is preferred stands for the list that it was preferred of
-preferred-again : (t l : List ℕ) → preferred t (Option·toList (preferred t l)) ≡ preferred t l
-unfolding Option·toList
-preferred-again t l =
-    sym
-    (ap (preferred t) (sym (append-nil l)) ∙
-    preferred-joined t l [] ∙
-    ap (λ (o : Option ℕ). preferred t (Option·toList (preferred t l) ++ Option·toList o)) (preferred-nil t) ∙
-    ap (preferred t) (append-nil (Option·toList (preferred t l))))
-
-preferred-added : (t l : List ℕ) (u : ℕ) → preferred t (l ++ (u ∷ [])) ≡ preferred t (Option·toList (preferred t l) ++ (u ∷ []))
-preferred-added t l u =
-    preferred-joined t l (u ∷ []) ∙
-    ap (λ (o : Option ℕ). preferred t (Option·toList o ++ Option·toList (preferred t (u ∷ [])))) (sym (preferred-again t l)) ∙
-    sym (preferred-joined t (Option·toList (preferred t l)) (u ∷ []))
-
-pub added-some : (t l : List ℕ) (u v : ℕ) → preferred t l ≡ some v → preferred t (l ++ (u ∷ [])) ≡ preferred t (v ∷ u ∷ [])
-unfolding Option·toList
-added-some t l u v e = preferred-added t l u ∙ ap (λ (o : Option ℕ). preferred t (Option·toList o ++ (u ∷ []))) e
-
-pub added-none : (t l : List ℕ) (u : ℕ) → preferred t l ≡ none → preferred t (l ++ (u ∷ [])) ≡ preferred t (u ∷ [])
-unfolding Option·toList
-added-none t l u e = preferred-added t l u ∙ ap (λ (o : Option ℕ). preferred t (Option·toList o ++ (u ∷ []))) e
+pub listed-else : (v u : ℕ) (l : List ℕ) → (v ≡ u → ⊥) → elem v (l ++ (u ∷ [])) ≡ elem v l
+unfolding elem
+listed-else v u l other = elem-append v l (u ∷ []) ∙ rw (ne-eqb u v (λ e. other (sym e))) (or-false (elem v l))
 
 -- 72 to 75
 

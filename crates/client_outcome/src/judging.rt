@@ -3,19 +3,18 @@ ghost use mathlib.Core.Bool.{true, cond};
 ghost use mathlib.Core.List.{[], _∷_, _++_};
 ghost use mathlib.Core.Path.{_≡_};
 ghost use Rattle.choosing.specs.Choice.{preferred};
-ghost use Rattle.lists.specs.Wire.{entries, entryReply};
+ghost use Rattle.lists.specs.Wire.{entries};
+ghost use Rattle.versions.specs.Table.{elem};
 ghost use Rattle.information.specs.Information.{versionsIn};
 ghost use Rattle.attempt.specs.Step.{picks, outcomeRules, countsFit};
 ghost use Rattle.client_outcome.specs.Judgements.{endsBy, bytesFor, within};
 ghost use Rattle.client_verdict.specs.Verdicts.{applied};
 use attempt::Attempt;
 use attempt::own::is_own;
-use choosing::prefer;
-use choosing::prefer_in_bytes;
 use client_verdict::Verdict;
-use lists::Entry;
 use lists::Span;
 use lists::VERSION_BYTES;
+use lists::contains_in_bytes;
 use refusals::Refusal;
 
 // 72 to 75 for what was read, or for its stand-in (RFC 9368 section 8). One call of `judge_versions` for both: the
@@ -74,28 +73,28 @@ fn judge_versions(attempt: Attempt, in_use: u32, chosen: u32, available: &[u8]) 
     Verdict::Completed(in_use)
 }
 
-// Whether the choice from Available and the version in use is the attempted version. By the law of joined lists
-// it is enough to choose from the choice and the version in use.
+// Whether the choice from Available and the version in use is the attempted version. Available has at most 255 entries:
+// each table entry is sought in them by itself, up to the first that is found.
 fn chooses_again(table: &[u32], available: &[u8], in_use: u32, attempted: u32) -> bool
     ensures { λ r. ⌜ r ≡ picks (preferred (now (table .entry)) (entries (now (available .entry)) ++ («in_use» ∷ []))) attempted ⌝ }
 {
-    match prefer_in_bytes(table, available) {
-        Entry::Version(version) => {
-            let joined = [version, in_use];
-            is_version(prefer(table, &joined), attempted)
+    let mut i = 0;
+    while i < table.len() {
+        let version = table[i];
+        if is_listed(available, in_use, version) {
+            return version == attempted;
         }
-        Entry::Nothing => {
-            let alone = [in_use];
-            is_version(prefer(table, &alone), attempted)
-        }
+        i += 1;
     }
+    false
 }
 
-fn is_version(found: Entry, version: u32) -> bool
-    ensures { λ r. ⌜ r ≡ picks (entryReply found) version ⌝ }
+// Whether the version is among Available or the one in use.
+fn is_listed(available: &[u8], in_use: u32, version: u32) -> bool
+    ensures { λ r. ⌜ r ≡ elem version (entries (now (available .entry)) ++ («in_use» ∷ [])) ⌝ }
 {
-    match found {
-        Entry::Version(other) => other == version,
-        Entry::Nothing => false,
+    if version == in_use {
+        return true;
     }
+    contains_in_bytes(available, version)
 }

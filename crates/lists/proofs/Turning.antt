@@ -66,8 +66,7 @@ word-of s place h below =
     let b0 = below k in
     let b1 = below (k + 1) in
     let b2 = below (k + 2) in
-    let b3 = below (k + 3) in
-    (
+    let b3 = below (k + 3) in (
       sym
           (ap turned e ∙
           turned-number (getD s k 0) (getD s (k + 1) 0) (getD s (k + 2) 0) (getD s (k + 3) 0) b0 b1 b2 b3),

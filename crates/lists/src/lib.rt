@@ -90,9 +90,9 @@ fn rest_contains(bytes: &[u8], from: usize, version: u32) -> bool
     requires { ⌜ from ≤ length (now bytes) / versionBytes ⌝ }
     ensures { λ r. ⌜ r ≡ elem version (drop from (entries (now (bytes .entry)))) ⌝ }
 {
-    let count = bytes.len() / VERSION_BYTES;
+    let end = bytes.len() / VERSION_BYTES;
     let mut i = from;
-    while i < count {
+    while i < end {
         if is_entry(bytes, i, version) {
             return true;
         }
@@ -107,7 +107,9 @@ fn is_entry(bytes: &[u8], place: usize, version: u32) -> bool
     requires { ⌜ place < length (now bytes) / versionBytes ⌝ }
     ensures { λ r. ⌜ r ≡ eqb (getD (entries (now (bytes .entry))) place 0) version ⌝ }
 {
-    word_at(bytes, place) == turned(version)
+    let word = word_at(bytes, place);
+    let sought = turned(version);
+    word == sought
 }
 
 // The entry at a place, turned: its bytes read little endian.

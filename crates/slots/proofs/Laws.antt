@@ -119,14 +119,12 @@ module _ {before slots after list : List ℕ} {factor place : ℕ} (f : IsFactor
   was-standing v l s e =
       ⊎-elim
       (λ same.
-      inr
-      (
+      inr (
         none-stands (getD list place 0) f emptied v (ap (λ (x : ℕ). slotOf (turned x) factor) (sym same)),
         e ∙ elem-here v list place inside same,
       ))
       (λ other.
-      inl
-      (
+      inl (
         still-stands (getD list place 0) f emptied v
             (λ slot. other (one-slot (getD list place 0) f emptied v l small s stood slot)) s,
         e ∙ elem-next v list place inside other,

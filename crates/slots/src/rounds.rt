@@ -23,6 +23,7 @@ use versions::MAX_TABLE;
 // The marks of an entry: ABSENT, it is not in the list; WAITING, that is not known; STANDING, that is not known, and it
 // stands in its slot.
 const WAITING: u8 = 1;
+
 const STANDING: u8 = 2;
 // So many rounds, then passes for what is left. A table that clashes on purpose took three at the most (docs/BENCHMARKS.md).
 const ROUNDS: usize = 8;
@@ -77,13 +78,7 @@ fn put(slots: &mut [u32; SLOTS], table: &[u32], marks: &[u8; MAX_TABLE], upto: u
 }
 
 // Marks the entries that stand in their slots.
-fn mark(
-    slots: &[u32; SLOTS],
-    table: &[u32],
-    marks: &mut [u8; MAX_TABLE],
-    upto: usize,
-    factor: u64,
-)
+fn mark(slots: &[u32; SLOTS], table: &[u32], marks: &mut [u8; MAX_TABLE], upto: usize, factor: u64)
     requires { ⌜ IsFactor factor × (upto ≤ length (now table)) × (upto ≤ maxTable) ⌝ }
     ensures standing { λ _. ⌜ Marked (now (table .entry)) (now (slots .entry)) (now (marks .exit)) factor upto ⌝ }
     ensures kept { λ _. ⌜ NoneNew (now (marks .entry)) (now (marks .exit)) ⌝ }

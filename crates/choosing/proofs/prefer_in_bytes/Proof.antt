@@ -29,11 +29,11 @@ returns c =
     let told = c .before in
     sym (at-place told ∙ entryAt-past (now (told .before .before .before .args .table)) (told .first-in-bytes .result) (c .if1 .taken))
 
-mul-version : tie.Need-mul-version
-mul-version c = search needs
+mul-chosen : tie.Need-mul-chosen
+mul-chosen c = search needs
 
-shared-slice-read-version : tie.Need-shared-slice-read-version
-shared-slice-read-version c = search needs
+shared-slice-read-chosen : tie.Need-shared-slice-read-chosen
+shared-slice-read-chosen c = search needs
 
 returns-2 : tie.Need-returns-2
 returns-2 c =
@@ -45,4 +45,4 @@ returns-2 c =
 pub prefer-in-bytes-spec : {M : Type 1} → statement M
 prefer-in-bytes-spec =
     tie.close
-    (tie.spec first-in-bytes-requires returns mul-version shared-slice-read-version returns-2)
+    (tie.spec first-in-bytes-requires returns mul-chosen shared-slice-read-chosen returns-2)

@@ -48,8 +48,7 @@ loop-again c =
     let so-far = at .loop .inv .1 in
     let told = c .before .is-entry .ensures in
     let inside : i < length list = rw (length-entries (now (args .bytes))) (omega arith) in
-    let next : args .from + (at .loop .k + 1) ≡ i + 1 = omega arith in
-    (
+    let next : args .from + (at .loop .k + 1) ≡ i + 1 = omega arith in (
       omega arith,
       ⊎-elim
           (λ w.

@@ -13,13 +13,13 @@ use Rattle.lists.proofs.rest_contains.Statement.{statement}
 use Rattle.lists.proofs.rest_contains.Tie as tie
 
 abbrev Inv-loop : tie.InvT-loop
-Inv-loop bytes from version count i₀ i =
-    (i ≤ count)
-    × (count ≡ length bytes / versionBytes)
+Inv-loop bytes from version end i₀ i =
+    (i ≤ end)
+    × (end ≡ length bytes / versionBytes)
     × (elem version (drop from (entries bytes)) ≡ elem version (drop i (entries bytes)))
 
 abbrev μ-loop : tie.MeasureT-loop
-μ-loop bytes from version count i₀ i = count - i
+μ-loop bytes from version end i₀ i = end - i
 
 loop-holds : tie.Need-loop-holds Inv-loop μ-loop
 loop-holds c = (omega arith, refl, refl)
@@ -50,8 +50,7 @@ loop-again : tie.Need-loop-again Inv-loop μ-loop
 loop-again c =
     let at = c .before .before .before in
     let args = at .before .before .args in
-    let other = eqb-false _ _ (sym (c .before .is-entry .ensures) ∙ c .if1 .left) in
-    (
+    let other = eqb-false _ _ (sym (c .before .is-entry .ensures) ∙ c .if1 .left) in (
       omega arith,
       refl,
       at .loop .inv .2 ∙

@@ -1,74 +1,85 @@
--- `chooses_again` meets its contract: the law of joined lists lets the choice stand for the list that it was made from.
-use borrow.Author.Needs.{needs}
+-- `chooses_again` meets its contract: the rest of the table answers for the whole.
+use Prim.Native.Nat.{ℕ, _+_, _-_, _≤_}
+use mathlib.Core.List.{List, [], _∷_, _++_}
 use mathlib.Core.Option.{Option}
-use mathlib.Core.Path.{sym, ap, _∙_}
-use Prim.Native.Nat.{ℕ}
+use mathlib.Core.Path.{_≡_, refl, sym, ap, _∙_}
+use native.Mathlib.Omega.{arith}
+use borrow.Author.Needs.{needs}
 use denote.Ref.{now}
-use Rattle.lists.specs.Wire.{entries, entryReply}
+use lib.ListN.{length, drop}
+use Rattle.choosing.specs.Choice.{preferred}
+use Rattle.choosing.proofs.Chosen.{preferred-here, preferred-next, preferred-end}
+use Rattle.lists.specs.Wire.{entries}
 use Rattle.attempt.specs.Step.{picks}
-use Rattle.client_outcome.proofs.Outcomes.{added-some, added-none}
 use Rattle.client_outcome.proofs.judging.chooses_again.Statement.{statement}
 use Rattle.client_outcome.proofs.judging.chooses_again.Tie as tie
 
-prefer-in-bytes-requires : tie.Need-prefer-in-bytes-requires
-prefer-in-bytes-requires c κs = search needs
+abbrev Inv-loop : tie.InvT-loop
+Inv-loop table available in-use attempted i₀ i =
+    (i ≤ length table)
+    × (preferred table (entries available ++ (in-use ∷ [])) ≡ preferred (drop i table) (entries available ++ (in-use ∷ [])))
 
-enum-known-version : tie.Need-enum-known-version
-enum-known-version c = search needs
+abbrev μ-loop : tie.MeasureT-loop
+μ-loop table available in-use attempted i₀ i = length table - i
 
-slice-aggregate-prefer : tie.Need-slice-aggregate-prefer
-slice-aggregate-prefer c = search needs
+loop-holds : tie.Need-loop-holds Inv-loop μ-loop
+loop-holds c = (omega arith, refl)
 
-prefer-requires : tie.Need-prefer-requires
-prefer-requires c κs = search needs
+mul-version : tie.Need-mul-version Inv-loop μ-loop
+mul-version c = omega arith
 
-is-version-requires : tie.Need-is-version-requires
-is-version-requires c κs = search needs
+shared-slice-read-version : tie.Need-shared-slice-read-version Inv-loop μ-loop
+shared-slice-read-version c = omega arith
 
-enum-told : tie.Need-enum-told
-enum-told c = search needs
+is-listed-requires : tie.Need-is-listed-requires Inv-loop μ-loop
+is-listed-requires c κs = search needs
 
-slice-aggregate-prefer-2 : tie.Need-slice-aggregate-prefer-2
-slice-aggregate-prefer-2 c = search needs
-
-prefer-requires-2 : tie.Need-prefer-requires-2
-prefer-requires-2 c κs = search needs
-
-is-version-requires-2 : tie.Need-is-version-requires-2
-is-version-requires-2 c κs = search needs
-
-returns : tie.Need-returns
+returns : tie.Need-returns Inv-loop μ-loop
 returns c =
-    let g = c .before .before .before .before .before .before .before .before .before .args in
-    c .is-version .ensures ∙
-    ap (λ (o : Option ℕ). picks o (g .attempted))
-    (c .before .prefer .ensures ∙
-    sym
-    (added-some (now (g .table)) (entries (now (g .available))) (g .in-use) _
-    (sym (c .before .before .before .before .before .before .prefer-in-bytes .ensures) ∙ ap entryReply (c .before .before .before .before .version .given .1))))
+    let at = c .before .before .before .before in
+    let g = at .before .before .before .args in
+    let joined = entries (now (g .available)) ++ (g .in-use ∷ []) in
+    let inside = c .before .before .before .loop-test .taken in
+    let here = preferred-here joined (now (g .table)) (at .loop .i) inside (sym (c .before .is-listed .ensures) ∙ c .if1 .taken) in
+    sym (ap (λ (o : Option ℕ). picks o (g .attempted)) (at .loop .inv .1 ∙ here))
 
-returns-2 : tie.Need-returns-2
+add-i : tie.Need-add-i Inv-loop μ-loop
+add-i c = omega arith
+
+loop-less : tie.Need-loop-less Inv-loop μ-loop
+loop-less c = omega arith
+
+loop-again : tie.Need-loop-again Inv-loop μ-loop
+loop-again c =
+    let at = c .before .before .before .before in
+    let g = at .before .before .before .args in
+    let joined = entries (now (g .available)) ++ (g .in-use ∷ []) in
+    let inside = c .before .before .before .loop-test .taken in (
+      omega arith,
+      at .loop .inv .1 ∙
+          preferred-next joined (now (g .table)) (at .loop .i) inside (sym (c .before .is-listed .ensures) ∙ c .if1 .left),
+    )
+
+returns-2 : tie.Need-returns-2 Inv-loop μ-loop
 returns-2 c =
-    let g = c .before .before .before .before .before .before .before .before .args in
-    c .is-version2 .ensures ∙
-    ap (λ (o : Option ℕ). picks o (g .attempted))
-    (c .before .prefer2 .ensures ∙
-    sym
-    (added-none (now (g .table)) (entries (now (g .available))) (g .in-use)
-    (sym (c .before .before .before .before .before .prefer-in-bytes .ensures) ∙ ap entryReply (c .before .before .before .enum-told .given .1))))
+    let at = c .before in
+    let g = at .before .before .before .args in
+    let joined = entries (now (g .available)) ++ (g .in-use ∷ []) in
+    let none = preferred-end joined (now (g .table)) (at .loop .i) (c .loop-test .left) in
+    sym (ap (λ (o : Option ℕ). picks o (g .attempted)) (at .loop .inv .1 ∙ none))
 
 pub chooses-again-spec : {M : Type 1} → statement M
 chooses-again-spec =
     tie.close
     (tie.spec
-    prefer-in-bytes-requires
-    enum-known-version
-    slice-aggregate-prefer
-    prefer-requires
-    is-version-requires
-    enum-told
-    slice-aggregate-prefer-2
-    prefer-requires-2
-    is-version-requires-2
+    Inv-loop
+    μ-loop
+    loop-holds
+    mul-version
+    shared-slice-read-version
+    is-listed-requires
     returns
+    add-i
+    loop-less
+    loop-again
     returns-2)

@@ -37,8 +37,7 @@ shared-slice-read-was-found c = omega (arith, c .before .before .before .before 
 was-found-requires : tie.Need-was-found-requires Inv-loop μ-loop
 was-found-requires c κs =
     let at = c .before .before .before .before in
-    let start = at .before .before .before in
-    (
+    let start = at .before .before .before in (
       start .pre .0,
       start .pre .2,
       at .loop .inv .2 (at .loop .k) (c .before .before .before .loop-test .taken) (c .before .if1 .taken)
@@ -69,8 +68,7 @@ loop-again c =
     let list = entries (now (args .bytes)) in
     let slots = args .slots .now in
     let marks = at .loop .marks in
-    let k = at .loop .k in
-    (
+    let k = at .loop .k in (
       omega arith,
       ⊎-elim
           (λ w.

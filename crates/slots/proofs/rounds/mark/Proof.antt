@@ -49,8 +49,7 @@ loop-again c =
     let table = now (args .table) in
     let slots = args .slots .now in
     let marks = at .loop .marks in
-    let k = at .loop .k in
-    (
+    let k = at .loop .k in (
       omega arith,
       ⊎-elim
           (λ w.
@@ -72,8 +71,7 @@ returns : tie.Need-returns Inv-loop μ-loop
 returns c =
     let at = c .before in
     let args = at .before .before .args in
-    let all : at .loop .k ≡ args .upto = omega arith in
-    (
+    let all : at .loop .k ≡ args .upto = omega arith in (
       subst (λ (k : ℕ). Marked (now (args .table)) (args .slots .now) (at .loop .marks) (args .factor) k) all (at .loop .inv .1),
       at .loop .inv .2,
     )

@@ -15,8 +15,7 @@ stands-requires c κs = search needs
 
 returns : tie.Need-returns
 returns c =
-    let args = c .before .before .before .args in
-    (
+    let args = c .before .before .before .args in (
       omega arith,
       λ e.
           does-stand (args .slots .now) (args .factor) (args .version) (c .before .stands .ensures)

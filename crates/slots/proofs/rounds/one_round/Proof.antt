@@ -38,8 +38,7 @@ judge-requires c κs =
     let scanned = c .before .before .scan .ensures in
     let marked = c .before .before .before .before .mark .ensures in
     let chosen = c .before .before .before .before .before .before .before .before .before .before in
-    let start = chosen .before .before .before .before in
-    (
+    let start = chosen .before .before .before .before in (
       chosen .best-factor .ensures,
       fits start .1,
       scanned .high,

@@ -56,8 +56,7 @@ loop-again c =
     let i = at .loop .i in
     let inside : i < length list = rw (length-entries (now (args .bytes))) (omega arith) in
     let gone = does-not-stand (args .slots .now) (args .factor) (getD list i 0) (c .before .stands .ensures)
-    (c .before .before .word-at .ensures .0) (c .if1 .left) in
-    (
+    (c .before .before .word-at .ensures .0) (c .if1 .left) in (
       omega arith,
       omega arith,
       refl,

@@ -48,8 +48,7 @@ loop-again c =
     let at = c .before .before .before in
     let args = at .before .before .args in
     let next = c .before .hit-in-group .ensures in
-    let all : c .before .hit-in-group .result ≡ at .loop .i + group = omega (arith, next .high, c .if1 .left) in
-    (
+    let all : c .before .hit-in-group .result ≡ at .loop .i + group = omega (arith, next .high, c .if1 .left) in (
       omega arith,
       omega arith,
       refl,
