@@ -12,6 +12,8 @@
  *  - NULL is allowed exactly where the length given with it is 0;
  *  - a record is used by one thread at a time. There is no global state: distinct records on
  *    distinct threads are fine;
+ *  - there is room on the stack: 18 KiB for an event and for a choice from bytes, 2 KiB for any
+ *    other call;
  *  - x86-64 Linux.
  *
  * C99. Link with libquic_version.a, which scripts/install puts beside this header, or with

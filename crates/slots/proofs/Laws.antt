@@ -7,7 +7,7 @@ use mathlib.Core.Path.{_≡_, refl, sym, ap, subst, _∙_}
 use native.Mathlib.Numerals.{add-one}
 use native.Mathlib.Omega.{arith}
 use lib.Dec.{eqb}
-use lib.ListN.{length, drop, getD, set, replicate, getD-replicate}
+use lib.ListN.{length, take, drop, getD, set, replicate, getD-replicate}
 use lib.Seq.{getD-set-other}
 use borrow.Author.Count.{below-more}
 use borrow.Author.Tests.{eqb-true, eqb-false, eq-eqb, ne-eqb}
@@ -95,6 +95,17 @@ pub pass-over : (slots list : List ℕ) (factor from i : ℕ) → i < length lis
     → Passed slots list factor from i → Passed slots list factor from (i + 1)
 pass-over slots list factor from i h gone passed v s =
     passed v s ∙ elem-next v list i h (λ e. gone (subst (λ (x : ℕ). Stands slots factor x) (sym e) s))
+
+-- What the entries from a place on say, with those before it that were passed over
+pub hit-from : {slots list : List ℕ} {factor i to place : ℕ} (from : ℕ) → from ≤ i → Passed slots list factor from i
+    → NextHit slots list factor i to place → NextHit slots list factor from to place
+hit-from from l passed next =
+    record {
+      low = omega (arith, next .low);
+      high = next .high;
+      passed = λ v s. passed v s ∙ next .passed v s;
+      hit = next .hit;
+    }
 
 -- Before the first entry
 pub scan-start : (slots list : List ℕ) (factor : ℕ) → Scanned slots slots list factor 0
@@ -261,3 +272,40 @@ first-is (v ∷ table) list (suc r) h none held =
     let there : elem v list ≡ false = none 0 (omega arith) in
     rw there
     (ap suc (first-is table list r (omega arith) (λ k l. none (suc k) (omega arith)) (λ l. held (omega arith))))
+
+pub first-at-most : (table list : List ℕ) → firstPlace table list ≤ length table
+unfolding firstPlace
+first-at-most [] list = omega arith
+first-at-most (v ∷ table) list = go (elem v list) (first-at-most table list)
+  where
+    go : (b : Bool) → firstPlace table list ≤ length table → cond b 0 (suc (firstPlace table list)) ≤ suc (length table)
+    go true h = omega arith
+    go false h = omega arith
+
+-- A table in two parts: a place in the front is the place in the whole
+pub first-in-front : (n : ℕ) (table list : List ℕ) → firstPlace (take n table) list < length (take n table)
+    → firstPlace (take n table) list ≡ firstPlace table list
+unfolding firstPlace
+first-in-front zero table list h = absurd (omega arith)
+first-in-front (suc n) [] list h = absurd (omega arith)
+first-in-front (suc n) (v ∷ table) list h = go (elem v list) h (first-in-front n table list)
+  where
+    go : (b : Bool) → cond b 0 (suc (firstPlace (take n table) list)) < suc (length (take n table))
+        → (firstPlace (take n table) list < length (take n table) → firstPlace (take n table) list ≡ firstPlace table list)
+        → cond b 0 (suc (firstPlace (take n table) list)) ≡ cond b 0 (suc (firstPlace table list))
+    go true l rest = refl
+    go false l rest = ap suc (rest (omega arith))
+
+-- and where the front has none, the rest has it
+pub first-behind : (n : ℕ) (table list : List ℕ) → n ≤ length table → n ≤ firstPlace (take n table) list
+    → n + firstPlace (drop n table) list ≡ firstPlace table list
+unfolding firstPlace
+first-behind zero table list h l = omega arith
+first-behind (suc n) [] list h l = absurd (omega arith)
+first-behind (suc n) (v ∷ table) list h l = go (elem v list) l (first-behind n table list (omega arith))
+  where
+    go : (b : Bool) → suc n ≤ cond b 0 (suc (firstPlace (take n table) list))
+        → (n ≤ firstPlace (take n table) list → n + firstPlace (drop n table) list ≡ firstPlace table list)
+        → suc n + firstPlace (drop n table) list ≡ cond b 0 (suc (firstPlace table list))
+    go true m rest = absurd (omega arith)
+    go false m rest = omega (arith, rest (omega arith))

@@ -2,9 +2,10 @@
 // up in slots, so that the time grows with list plus table and not with their product.
 ghost use mathlib.Core.Bool.{false};
 ghost use mathlib.Core.Path.{_≡_};
-ghost use Prim.Native.Nat.{_<_, _≤_};
+ghost use Prim.Native.Nat.{_<_};
 ghost use Rattle.lists.specs.Wire.{entries};
-ghost use Rattle.versions.specs.Limits.{maxTable};
+ghost use lib.ListN.{getD};
+ghost use Rattle.versions.specs.Table.{elem};
 ghost use Rattle.slots.specs.First.{firstPlace};
 
 mod factors; // which factor sends the words of a table to slots of their own
@@ -38,21 +39,35 @@ pub fn first_in_bytes(table: &[u32], bytes: &[u8]) -> usize
     if contains_in_bytes(bytes, first) {
         return 0;
     }
-    by_slots(table, bytes)
+    // Lent anew: the compiler then keeps the slices above in registers.
+    in_parts(&table[0..], &bytes[0..])
 }
 
-// Whether passes over the list are as quick as slots are, or the table is longer than the marks: then the choice refuses
-// it in any case.
+// Whether passes over the list are as quick as slots are.
 fn is_quick(table: usize, list: usize) -> bool
-    ensures { λ r. ⌜ (r ≡ false → (0 < table) × (table ≤ maxTable)) ⌝ }
+    ensures { λ r. ⌜ (r ≡ false → 0 < table) ⌝ }
 {
     if table <= FEW {
         return true;
     }
-    if MAX_TABLE < table {
-        return true;
-    }
     list <= CHEAP / table
+}
+
+// The same by slots, where the table's first entry is not in the list. Of a table that is longer than the marks, which no
+// choice takes, the front goes by slots and the rest by passes. (With two calls of `by_slots` the compiler leaves it a
+// function of its own, and short lists have nothing of its stack.)
+fn in_parts(table: &[u32], bytes: &[u8]) -> usize
+    requires { ⌜ elem (getD (now table) 0 0) (entries (now bytes)) ≡ false ⌝ }
+    ensures { λ r. ⌜ r ≡ firstPlace (now (table .entry)) (entries (now (bytes .entry))) ⌝ }
+{
+    if table.len() <= MAX_TABLE {
+        return by_slots(table, bytes);
+    }
+    let place = by_slots(&table[..MAX_TABLE], bytes);
+    if place < MAX_TABLE {
+        return place;
+    }
+    MAX_TABLE + by_passes(&table[MAX_TABLE..], bytes)
 }
 
 // The place of the first entry of the table that occurs in the list, by a pass over the list for each entry.

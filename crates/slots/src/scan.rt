@@ -1,10 +1,11 @@
 // A list on the wire looked up in the slots.
+ghost use mathlib.Core.Bool.{false};
 ghost use mathlib.Core.Path.{_≡_};
 ghost use Prim.Native.Nat.{_+_, _<_, _≤_, _/_, _^_};
 ghost use lib.ListN.{length};
 ghost use Rattle.lists.specs.Wire.{entries, versionBytes};
 ghost use Rattle.slots.specs.Limits.{group, slotCount};
-ghost use Rattle.slots.specs.Slots.{NextHit, Scanned, IsFactor};
+ghost use Rattle.slots.specs.Slots.{NextHit, Passed, Scanned, IsFactor};
 use crate::FEW;
 use crate::SLOTS;
 use crate::slot::empty;
@@ -64,31 +65,31 @@ fn next_hit(slots: &[u32; SLOTS], bytes: &[u8], from: usize, factor: u64) -> usi
     let count = bytes.len() / VERSION_BYTES;
     let mut i = from;
     while GROUP <= count - i {
-        let place = hit_in_group(slots, bytes, i, factor);
-        i += GROUP;
-        if place < i {
-            return place;
+        if has_hit(slots, bytes, i, factor) {
+            return hit_in_rest(slots, bytes, i, factor);
         }
+        i += GROUP;
     }
     hit_in_rest(slots, bytes, i, factor)
 }
 
-// The same among GROUP entries. So many lookups one after the other are one piece of code, without a loop.
-fn hit_in_group(slots: &[u32; SLOTS], bytes: &[u8], from: usize, factor: u64) -> usize
+// Whether one of GROUP entries from a place on stands in its slot. So many lookups are one piece of code without a loop,
+// and with one way out.
+fn has_hit(slots: &[u32; SLOTS], bytes: &[u8], from: usize, factor: u64) -> bool
     requires { ⌜ (factor < 2 ^ 32) × (from + group ≤ length (now bytes) / versionBytes) ⌝ }
-    ensures { λ r. ⌜ NextHit (now (slots .entry)) (entries (now (bytes .entry))) factor from (from + group) r ⌝ }
+    ensures { λ r. ⌜ (r ≡ false → Passed (now (slots .entry)) (entries (now (bytes .entry))) factor from (from + group)) ⌝ }
 {
     let mut k = 0;
     while k < GROUP {
         if stands(slots, word_at(bytes, from + k), factor) {
-            return from + k;
+            return true;
         }
         k += 1;
     }
-    from + k
+    false
 }
 
-// The same, entry by entry, to the list's end.
+// The same entry by entry.
 fn hit_in_rest(slots: &[u32; SLOTS], bytes: &[u8], from: usize, factor: u64) -> usize
     requires { ⌜ (factor < 2 ^ 32) × (from ≤ length (now bytes) / versionBytes) ⌝ }
     ensures { λ r. ⌜ NextHit (now (slots .entry)) (entries (now (bytes .entry))) factor from (length (now (bytes .entry)) / versionBytes) r ⌝ }

@@ -1,10 +1,15 @@
--- `first_in_bytes`: the table's first entry, or one of the two ways.
-use Prim.Native.Nat.{_<_}
-use mathlib.Core.Path.{_≡_, sym, _∙_}
+-- `first_in_bytes`: by passes, or the first entry by a pass and the others by slots.
+use Prim.Native.Nat.{ℕ}
+use mathlib.Core.List.{List}
+use mathlib.Core.Path.{_≡_, sym, ap, _∙_}
 use native.Mathlib.Omega.{arith}
 use borrow.Author.Needs.{needs}
 use denote.Ref.{now}
+use lib.ListN.{getD}
 use Rattle.lists.specs.Wire.{entries}
+use Rattle.versions.specs.Table.{elem}
+use Rattle.versions.proofs.Lists.{part-rest}
+use Rattle.slots.specs.First.{firstPlace}
 use Rattle.slots.proofs.Laws.{first-is}
 use Rattle.slots.proofs.first_in_bytes.Statement.{statement}
 use Rattle.slots.proofs.first_in_bytes.Tie as tie
@@ -19,7 +24,7 @@ returns : tie.Need-returns
 returns c = search needs
 
 shared-slice-read-first : tie.Need-shared-slice-read-first
-shared-slice-read-first c = omega (arith, c .before .before .is-quick .ensures (c .before .if1 .left) .0)
+shared-slice-read-first c = omega (arith, c .before .before .is-quick .ensures (c .before .if1 .left))
 
 contains-in-bytes-requires : tie.Need-contains-in-bytes-requires
 contains-in-bytes-requires c κs = search needs
@@ -31,13 +36,35 @@ returns-2 c =
     first-is (now (start .args .table)) (entries (now (start .args .bytes))) 0 (omega arith) (λ k l. absurd (omega arith))
     (λ l. sym (found .contains-in-bytes .ensures) ∙ c .if2 .taken)
 
-by-slots-requires : tie.Need-by-slots-requires
-by-slots-requires c κs =
-    let slow = c .before .before .before in
-    (slow .before .is-quick .ensures (slow .if1 .left) .1, sym (c .before .contains-in-bytes .ensures) ∙ c .if2 .left)
+sub-in-parts : tie.Need-sub-in-parts
+sub-in-parts c = search needs
+
+part-in-parts-start : tie.Need-part-in-parts-start
+part-in-parts-start c = search needs
+
+part-in-parts-end : tie.Need-part-in-parts-end
+part-in-parts-end c = search needs
+
+sub-in-parts-2 : tie.Need-sub-in-parts-2
+sub-in-parts-2 c = search needs
+
+part-in-parts-start-2 : tie.Need-part-in-parts-start-2
+part-in-parts-start-2 c = search needs
+
+part-in-parts-end-2 : tie.Need-part-in-parts-end-2
+part-in-parts-end-2 c = search needs
+
+in-parts-requires : tie.Need-in-parts-requires
+in-parts-requires c κs =
+    let missed = c .before .before in
+    let start = missed .before .before .before .before .before .before .before in
+    rw (part-rest (now (start .args .table)) 0, part-rest (now (start .args .bytes)) 0)
+    (sym (missed .before .contains-in-bytes .ensures) ∙ missed .if2 .left)
 
 returns-3 : tie.Need-returns-3
-returns-3 c = search needs
+returns-3 c =
+    let start = c .before .before .before .before .before .before .before .before .before .before in
+    rw (part-rest (now (start .args .table)) 0, part-rest (now (start .args .bytes)) 0) at (c .in-parts .ensures)
 
 pub first-in-bytes-spec : {M : Type 1} → statement M
 first-in-bytes-spec =
@@ -49,5 +76,11 @@ first-in-bytes-spec =
     shared-slice-read-first
     contains-in-bytes-requires
     returns-2
-    by-slots-requires
+    sub-in-parts
+    part-in-parts-start
+    part-in-parts-end
+    sub-in-parts-2
+    part-in-parts-start-2
+    part-in-parts-end-2
+    in-parts-requires
     returns-3)

@@ -1,18 +1,19 @@
--- `hit_in_group`: no version that stands is passed over.
-use Prim.Native.Nat.{_+_, _-_, _/_, _<_, _≤_, _^_}
-use mathlib.Core.Path.{_≡_, refl, sym, _∙_}
+-- `has_hit`: no version that stands is passed over.
+use Prim.Native.Nat.{ℕ, _+_, _-_, _<_, _≤_}
+use mathlib.Core.Bool.{false≢true}
+use mathlib.Core.Path.{_≡_, refl, sym, subst}
 use native.Mathlib.Nat.{add-zero}
 use native.Mathlib.Omega.{arith}
 use borrow.Author.Needs.{needs}
 use denote.Ref.{now}
 use lib.ListN.{length, getD}
-use Rattle.lists.specs.Wire.{entries, versionBytes}
+use Rattle.lists.specs.Wire.{entries}
 use Rattle.lists.proofs.Entries.{length-entries}
 use Rattle.slots.specs.Limits.{group}
-use Rattle.slots.specs.Slots.{NextHit, Passed, Stands}
-use Rattle.slots.proofs.Laws.{does-stand, does-not-stand, pass-over}
-use Rattle.slots.proofs.scan.hit_in_group.Statement.{statement}
-use Rattle.slots.proofs.scan.hit_in_group.Tie as tie
+use Rattle.slots.specs.Slots.{Passed}
+use Rattle.slots.proofs.Laws.{does-not-stand, pass-over}
+use Rattle.slots.proofs.scan.has_hit.Statement.{statement}
+use Rattle.slots.proofs.scan.has_hit.Tie as tie
 
 abbrev Inv-loop : tie.InvT-loop
 Inv-loop slots bytes from factor k₀ k =
@@ -33,22 +34,8 @@ word-at-requires c κs = omega arith
 stands-requires : tie.Need-stands-requires Inv-loop μ-loop
 stands-requires c κs = search needs
 
-add-result : tie.Need-add-result Inv-loop μ-loop
-add-result c = omega arith
-
 returns : tie.Need-returns Inv-loop μ-loop
-returns c =
-    let at = c .before .before .before .before in
-    let args = at .before .before .args in
-    let list = entries (now (args .bytes)) in
-    record {
-      low = omega arith;
-      high = omega arith;
-      passed = at .loop .inv .1;
-      hit = λ l.
-          does-stand (args .slots .now) (args .factor) (getD list (args .from + at .loop .k) 0) (c .before .stands .ensures)
-          (c .before .before .word-at .ensures .0) (c .if1 .taken);
-    }
+returns c = λ e. absurd (false≢true (sym e))
 
 add-k : tie.Need-add-k Inv-loop μ-loop
 add-k c = omega arith
@@ -68,16 +55,15 @@ loop-again c =
     (c .before .before .word-at .ensures .0) (c .if1 .left) in
     (omega arith, rw next (pass-over (args .slots .now) list (args .factor) (args .from) place inside gone (at .loop .inv .1)))
 
-add-result-2 : tie.Need-add-result-2 Inv-loop μ-loop
-add-result-2 c = omega arith
-
 returns-2 : tie.Need-returns-2 Inv-loop μ-loop
 returns-2 c =
     let at = c .before in
-    record { low = omega arith; high = omega arith; passed = at .loop .inv .1; hit = λ l. absurd (omega arith) }
+    let args = at .before .before .args in
+    let all : at .loop .k ≡ group = omega arith in
+    λ e. subst (λ (k : ℕ). Passed (args .slots .now) (entries (now (args .bytes))) (args .factor) (args .from) (args .from + k)) all (at .loop .inv .1)
 
-pub hit-in-group-spec : {M : Type 1} → statement M
-hit-in-group-spec =
+pub has-hit-spec : {M : Type 1} → statement M
+has-hit-spec =
     tie.close
     (tie.spec
     Inv-loop
@@ -86,10 +72,8 @@ hit-in-group-spec =
     add-word-at
     word-at-requires
     stands-requires
-    add-result
     returns
     add-k
     loop-less
     loop-again
-    add-result-2
     returns-2)
