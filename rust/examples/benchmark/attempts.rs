@@ -1,6 +1,6 @@
 //! Rows of the client's attempt: starts, own lists, and events on a small and on a full table.
 
-use crate::measure::{calls, grouped, opaque, same, Table};
+use crate::measure::{calls, grouped, opaque, same, Part, Table};
 use crate::packet::{in_fours, information, long_packet};
 use crate::plain::PlainAttempt;
 use crate::{raw, Pair};
@@ -15,17 +15,12 @@ pub fn rows(table: &mut Table) {
 /// What an event answers: a version, or the number of a refusal.
 type Answer = Result<u32, u8>;
 
-/// The library's attempt and plain Rust's, after the same calls. Each begins a part of memory, so
-/// that no copy crosses from one page to the next.
+/// The library's attempt and plain Rust's, after the same calls.
 #[derive(Clone)]
 struct Both {
     library: Part<Attempt>,
     plain: Part<PlainAttempt>,
 }
-
-#[derive(Clone)]
-#[repr(align(512))]
-struct Part<T>(T);
 
 impl Both {
     fn start(

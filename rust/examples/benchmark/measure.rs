@@ -37,20 +37,25 @@ where
     plain
 }
 
+/// A value that begins a part of memory, so that no copy of it crosses from one page to the next.
+#[derive(Clone)]
+#[repr(align(512))]
+pub struct Part<T>(pub T);
+
 /// Nanoseconds for one call, over `calls` calls.
-fn time(calls: u64, work: &mut dyn FnMut(u64)) -> f64 {
+pub fn time(calls: u64, work: &mut dyn FnMut(u64)) -> f64 {
     let begin = Instant::now();
     work(calls);
     begin.elapsed().as_nanos() as f64 / calls as f64
 }
 
 /// So many frames go once through a page of the stack.
-const FRAMES: usize = 32;
+pub const FRAMES: usize = 32;
 
 /// Does the work that many frames deeper. A record that crosses from one page of memory to the next
 /// is slow to copy; so few runs meet that, and the median leaves them out.
 #[inline(never)]
-fn deeper(frames: usize, work: &mut dyn FnMut()) {
+pub fn deeper(frames: usize, work: &mut dyn FnMut()) {
     let frame = [0_u64; 16];
     if frames == 0 {
         work();
@@ -60,7 +65,7 @@ fn deeper(frames: usize, work: &mut dyn FnMut()) {
     opaque(frame);
 }
 
-fn median(mut times: Vec<f64>) -> f64 {
+pub fn median(mut times: Vec<f64>) -> f64 {
     times.sort_by(f64::total_cmp);
     times[times.len() / 2]
 }

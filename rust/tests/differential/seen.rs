@@ -1,5 +1,6 @@
 //! The tally of a run: how often each number was seen, and how often each function was called.
 
+use crate::Found;
 use quic_version::{Refusal, WriteRefusal};
 use std::collections::{BTreeMap, BTreeSet};
 
@@ -32,14 +33,8 @@ pub struct Seen {
     answers: BTreeSet<(&'static str, u32)>,
 }
 
-impl Seen {
-    pub fn note(&mut self, function: &'static str, number: u32) {
-        *self.numbers.entry(number).or_insert(0) += 1;
-        *self.functions.entry(function).or_insert(0) += 1;
-        self.answers.insert((function, number));
-    }
-
-    pub fn join(&mut self, other: Seen) {
+impl Found for Seen {
+    fn join(&mut self, other: Seen) {
         for (number, count) in other.numbers {
             *self.numbers.entry(number).or_insert(0) += count;
         }
@@ -48,10 +43,24 @@ impl Seen {
         }
         self.answers.extend(other.answers);
     }
+}
+
+impl Seen {
+    pub fn note(&mut self, function: &'static str, number: u32) {
+        *self.numbers.entry(number).or_insert(0) += 1;
+        *self.functions.entry(function).or_insert(0) += 1;
+        self.answers.insert((function, number));
+    }
 
     /// Comparisons in all.
     pub fn cases(&self) -> usize {
         self.functions.values().sum()
+    }
+
+    /// Those of the answers of a function that were not seen.
+    pub fn lacking(&self, function: &'static str, answers: &[u32]) -> Vec<u32> {
+        let lacks = |answer: &u32| !self.answers.contains(&(function, *answer));
+        answers.iter().copied().filter(lacks).collect()
     }
 
     /// Those of `NUMBERS` that were not.
@@ -79,7 +88,12 @@ impl Seen {
         for (number, count) in &self.numbers {
             text += &format!("  {:>6} {:>9}  {}\n", number, count, cause(*number));
         }
-        text += "\n  compared  function\n";
+        text + "\n" + &self.compared()
+    }
+
+    /// How often each function was compared, to print.
+    pub fn compared(&self) -> String {
+        let mut text = String::from("  compared  function\n");
         for (function, count) in &self.functions {
             text += &format!("  {:>8}  {}\n", count, function);
         }

@@ -11,6 +11,8 @@
 pub mod attempts;
 mod choices;
 mod packet;
+pub mod screening;
+pub mod slots;
 mod versions;
 mod wire;
 mod words;

@@ -4,7 +4,7 @@ use super::Random;
 use crate::model::{MAX_PAIRS, MAX_TABLE};
 
 /// Whether a table or a pair may hold a version: not 0, not reserved.
-fn is_plain(version: u32) -> bool {
+pub(super) fn is_plain(version: u32) -> bool {
     version != 0 && version & 0x0f0f_0f0f != 0x0a0a_0a0a
 }
 

@@ -5,6 +5,7 @@ mod attempts;
 mod choices;
 mod damaged;
 mod paste;
+mod screening;
 mod wire;
 mod words;
 
@@ -12,6 +13,7 @@ pub use attempts::*;
 pub use choices::*;
 pub use damaged::*;
 pub use paste::Paste;
+pub use screening::*;
 pub use wire::*;
 pub use words::*;
 

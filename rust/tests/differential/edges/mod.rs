@@ -5,6 +5,7 @@ use crate::model::{self, Event};
 
 mod attempts;
 mod choices;
+mod screening;
 mod tables;
 mod wire;
 mod words;

@@ -69,7 +69,7 @@ pub fn calls(seen: &mut Seen, random: &mut Random, stream: usize) {
 }
 
 /// A failing attempt as a call to paste, without the pairs and events that it fails without.
-fn failing_attempt(c: &StartCall, events: &[Event], stream: usize) -> String {
+pub(super) fn failing_attempt(c: &StartCall, events: &[Event], stream: usize) -> String {
     let check = |pairs: &[(u32, u32)], events: &[Event]| {
         let (destination, source) = (&c.destination, &c.source);
         check_events(&c.table, pairs, c.original, destination, source, events).err()

@@ -22,6 +22,7 @@ macro_rules! compare {
 
 mod attempts;
 mod choices;
+pub mod screening;
 mod wire;
 mod words;
 

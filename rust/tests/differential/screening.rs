@@ -1,0 +1,119 @@
+//! The search of a list on the wire (C-16) against the model: on tables of every size and lists about
+//! every border, hostile ones among them, drawn from a seed.
+
+use crate::model;
+use crate::random::screening::{SearchCall, LISTS, TABLES};
+use crate::random::Random;
+use crate::seeded::screening::one_stream;
+use crate::seen::Seen;
+use crate::{all_streams, number_of, say, Found, DEFAULT_ROUNDS, DEFAULT_SEED};
+use std::collections::BTreeMap;
+
+/// The fewest lists of a run with the default number of rounds.
+const FEWEST: usize = 200_000;
+/// The draws for one entry of a clashing table.
+const DRAWS: usize = 2_000;
+
+/// What the calls have to answer, among others: that something is found, and that nothing is.
+const ANSWERS: [(&str, &[u32]); 5] = [
+    ("qv_choose_from_bytes", &[0, 42]),
+    ("qv_choose_by_word_from_bytes", &[0, 42]),
+    ("qv_event", &[0, 35, 64, 65, 75]),
+    ("qv_server_choice", &[0, 35]),
+    ("qv_read_information", &[0, 35]),
+];
+
+/// What was searched.
+#[derive(Default)]
+pub struct Searched {
+    pub seen: Seen,
+    /// How often a property of a list had each value.
+    counts: BTreeMap<(&'static str, usize), usize>,
+}
+
+impl Found for Searched {
+    fn join(&mut self, other: Searched) {
+        self.seen.join(other.seen);
+        for (property, count) in other.counts {
+            *self.counts.entry(property).or_insert(0) += count;
+        }
+    }
+}
+
+impl Searched {
+    pub fn note(&mut self, c: &SearchCall) {
+        let kind = c.tables as usize * LISTS.len() + c.lists as usize;
+        let choice = model::choose(&c.table, &c.list);
+        let rank = c.table.iter().position(|v| choice == Ok(*v));
+        for property in [
+            ("kind", kind),
+            ("table", c.table.len()),
+            ("list", c.list.len()),
+            ("lying", 4 * c.left_over + c.address),
+            ("by slots", usize::from(c.is_by_slots())),
+            ("answer", rank.unwrap_or(model::MAX_TABLE)),
+        ] {
+            *self.counts.entry(property).or_insert(0) += 1;
+        }
+    }
+
+    fn count(&self, property: &'static str, value: usize) -> usize {
+        self.counts.get(&(property, value)).copied().unwrap_or(0)
+    }
+
+    /// Those of the values that came up less often than this.
+    fn rare(
+        &self,
+        property: &'static str,
+        values: impl IntoIterator<Item = usize>,
+        least: usize,
+    ) -> Vec<(&'static str, usize)> {
+        let rare = |value: &usize| self.count(property, *value) < least;
+        let values = values.into_iter().filter(rare);
+        values.map(|value| (property, value)).collect()
+    }
+
+    /// What a run with the default number of rounds has to have had, and had not.
+    fn lacking(&self) -> Vec<(&'static str, usize)> {
+        let borders = [0, 1, 2, 15, 16, 17, 31, 32, 33, 47, 48, 49, 63, 64, 65];
+        let longer = [127, 128, 129, 255, 256, 257, model::MAX_LIST];
+        [
+            // Every kind of list with every kind of table.
+            self.rare("kind", 0..TABLES.len() * LISTS.len(), 1_000),
+            self.rare("table", 1..=model::MAX_TABLE, 1_000),
+            self.rare("list", borders.into_iter().chain(longer), 50),
+            self.rare("lying", 0..16, 10_000),
+            self.rare("by slots", [0, 1], FEWEST / 4),
+            // Each place of a table, and none.
+            self.rare("answer", 0..=model::MAX_TABLE, 200),
+        ]
+        .concat()
+    }
+}
+
+#[test]
+fn searches_and_model_agree() {
+    let seed = number_of("QUIC_VERSION_SEED", DEFAULT_SEED);
+    let lists = number_of("QUIC_VERSION_ROUNDS", DEFAULT_ROUNDS as u64) as usize;
+    let mut random = Random::new(seed);
+    let clashing: Vec<Vec<u32>> = (0..8).map(|_| random.clashing_table(DRAWS)).collect();
+    let searched: Searched = all_streams(lists, |searched, stream, lists| {
+        one_stream(searched, seed, stream, lists, &clashing);
+    });
+    let compared = searched.count("by slots", 0) + searched.count("by slots", 1);
+    say(&format!(
+        "\n  {:>8}  lists searched, {} of them by slots\n{}\n",
+        compared,
+        searched.count("by slots", 1),
+        searched.seen.compared()
+    ));
+    if lists >= DEFAULT_ROUNDS {
+        assert!(compared >= FEWEST, "{}", compared);
+        let lacking = searched.lacking();
+        assert!(lacking.is_empty(), "too rare: {:?}", lacking);
+        for (function, answers) in ANSWERS {
+            let lacking = searched.seen.lacking(function, answers);
+            assert!(lacking.is_empty(), "{}: never {:?}", function, lacking);
+        }
+    }
+}
