@@ -1,22 +1,20 @@
 -- The laws of the search by slots.
-use Prim.Native.Nat.{ℕ, zero, suc, _+_, _*_, _/_, _%_, _^_, _<_, _≤_}
+use Prim.Native.Nat.{ℕ, zero, suc, _+_, _^_, _<_, _≤_}
 use mathlib.Core.Bool.{Bool, true, false, cond}
 use mathlib.Core.List.{List, [], _∷_}
 use mathlib.Core.Logic.{_⊎_, inl, inr, ⊎-elim}
 use mathlib.Core.Path.{_≡_, refl, sym, ap, subst, _∙_}
-use native.Mathlib.Numerals.{add-one}
 use native.Mathlib.Omega.{arith}
 use lib.Dec.{eqb}
 use lib.ListN.{length, take, drop, getD, set, replicate, getD-replicate}
 use lib.Seq.{getD-set-other}
 use borrow.Author.Count.{below-more}
-use borrow.Author.Tests.{eqb-true, eqb-false, eq-eqb, ne-eqb}
+use borrow.Author.Tests.{eqb-true, eqb-false}
 use Rattle.lists.specs.Wire.{turned}
 use Rattle.lists.proofs.Turning.{turned-equal}
 use Rattle.versions.specs.Table.{elem}
 use Rattle.versions.proofs.Lists.{elem-here, elem-next}
 use Rattle.slots.specs.First.{firstPlace}
-use Rattle.slots.specs.Limits.{slotCount}
 use Rattle.slots.specs.Slots.{slotOf, IsFactor, fillerOf, Emptied, WordStands, Stands, Passed, NextHit, Told, Scanned, Judged, Marked, NoneNew}
 
 -- ---- two numbers are equal or not

@@ -1,5 +1,5 @@
 -- What the functions of the search promise each other. No public contract cites these definitions.
-use Prim.Native.Nat.{ℕ, _+_, _*_, _/_, _%_, _^_, _<_, _≤_}
+use Prim.Native.Nat.{ℕ, _*_, _/_, _%_, _^_, _<_, _≤_}
 use mathlib.Core.Bool.{true, false, cond}
 use lib.Dec.{eqb}
 use mathlib.Core.List.{List}

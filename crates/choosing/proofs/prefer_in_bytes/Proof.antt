@@ -1,10 +1,7 @@
 -- `prefer_in_bytes`: the table's entry at the first place that the list holds.
-use Prim.Native.Nat.{ℕ}
-use mathlib.Core.Option.{Option.none, Option.some}
 use mathlib.Core.Path.{_≡_, sym, ap, _∙_}
 use borrow.Author.Needs.{needs}
 use denote.Ref.{now}
-use lib.ListN.{getD}
 use Rattle.lists.specs.Wire.{entries, entryAt}
 use Rattle.lists.proofs.Entries.{entryAt-there, entryAt-past}
 use Rattle.choosing.specs.Choice.{preferred}

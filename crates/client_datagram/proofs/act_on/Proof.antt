@@ -1,6 +1,5 @@
 -- `act_on` meets its contract: what the choice answered is acted on.
-use Prim.Native.Nat.{ℕ, _≤_}
-use mathlib.Core.Option.{Option}
+use Prim.Native.Nat.{_≤_}
 use mathlib.Core.Path.{_≡_, sym, ap, _∙_}
 use native.Mathlib.Omega.{arith}
 use lib.ListN.{length, length-take}

@@ -1,10 +1,7 @@
 -- `is_entry`: entry and version are compared turned.
-use mathlib.Core.Path.{_≡_, ap, _∙_}
-use Prim.Native.Nat.{ℕ}
 use native.Mathlib.Omega.{arith}
 use borrow.Author.Needs.{needs}
 use denote.Ref.{now}
-use lib.Dec.{eqb}
 use lib.ListN.{getD}
 use Rattle.lists.specs.Wire.{entries}
 use Rattle.lists.proofs.Turning.{turned-eqb}

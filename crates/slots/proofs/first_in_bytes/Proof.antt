@@ -1,15 +1,10 @@
 -- `first_in_bytes`: by passes, or the first entry by a pass and the others by slots.
-use Prim.Native.Nat.{ℕ}
-use mathlib.Core.List.{List}
-use mathlib.Core.Path.{_≡_, sym, ap, _∙_}
+use mathlib.Core.Path.{sym, _∙_}
 use native.Mathlib.Omega.{arith}
 use borrow.Author.Needs.{needs}
 use denote.Ref.{now}
-use lib.ListN.{getD}
 use Rattle.lists.specs.Wire.{entries}
-use Rattle.versions.specs.Table.{elem}
 use Rattle.versions.proofs.Lists.{part-rest}
-use Rattle.slots.specs.First.{firstPlace}
 use Rattle.slots.proofs.Laws.{first-is}
 use Rattle.slots.proofs.first_in_bytes.Statement.{statement}
 use Rattle.slots.proofs.first_in_bytes.Tie as tie

@@ -1,5 +1,5 @@
 -- `in_parts`: the whole table, or its front and then the rest.
-use Prim.Native.Nat.{ℕ, _+_, _<_}
+use Prim.Native.Nat.{ℕ, _+_}
 use mathlib.Core.List.{List}
 use mathlib.Core.Path.{_≡_, sym, ap, _∙_}
 use native.Mathlib.Omega.{arith}
@@ -41,8 +41,7 @@ slice-aggregate-by-slots c = sym (front-length (c .before))
 
 by-slots-requires-2 : tie.Need-by-slots-requires-2
 by-slots-requires-2 c κs =
-    let long = c .before in
-    (
+    let long = c .before in (
       omega (arith, front-length long),
       ap (λ (v : ℕ). elem v (list long)) (getD-take maxTable (table long) 0 0 (omega arith)) ∙ start long .pre,
     )

@@ -1,5 +1,5 @@
 -- `best_factor`: every factor that is compared is one.
-use Prim.Native.Nat.{ℕ, _-_, _≤_}
+use Prim.Native.Nat.{_-_, _≤_}
 use mathlib.Core.Logic.{⊎-elim}
 use mathlib.Core.Path.{sym, subst}
 use native.Mathlib.Omega.{arith}

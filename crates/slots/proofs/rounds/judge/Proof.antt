@@ -1,12 +1,10 @@
 -- `judge`: entry by entry.
-use Prim.Native.Nat.{ℕ, _+_, _-_, _<_, _≤_}
+use Prim.Native.Nat.{ℕ, _-_, _≤_}
 use mathlib.Core.List.{List}
 use mathlib.Core.Logic.{⊎-elim}
-use mathlib.Core.Path.{_≡_, sym, subst, _∙_}
+use mathlib.Core.Path.{sym, subst, _∙_}
 use native.Mathlib.Omega.{arith}
-use borrow.Author.Needs.{needs}
 use denote.Ref.{now}
-use lib.ListN.{getD}
 use Rattle.lists.specs.Wire.{entries}
 use Rattle.slots.specs.Slots.{Judged, MarkedTold}
 use Rattle.slots.proofs.Laws.{judged-held, absent-more, mark-was}

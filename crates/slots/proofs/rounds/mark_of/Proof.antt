@@ -1,6 +1,4 @@
 -- `mark_of`: 2 where the version stands in its slot.
-use Prim.Native.Nat.{ℕ}
-use mathlib.Core.Path.{_≡_}
 use native.Mathlib.Omega.{arith}
 use borrow.Author.Needs.{needs}
 use Rattle.slots.proofs.Laws.{does-stand}

@@ -1,13 +1,13 @@
 -- `hit_in_rest`: no version that stands is passed over.
-use Prim.Native.Nat.{_+_, _-_, _/_, _<_, _≤_, _^_}
-use mathlib.Core.Path.{_≡_, refl, sym, _∙_}
+use Prim.Native.Nat.{_-_, _/_, _<_, _≤_}
+use mathlib.Core.Path.{_≡_, refl}
 use native.Mathlib.Omega.{arith}
 use borrow.Author.Needs.{needs}
 use denote.Ref.{now}
 use lib.ListN.{length, getD}
 use Rattle.lists.specs.Wire.{entries, versionBytes}
 use Rattle.lists.proofs.Entries.{length-entries}
-use Rattle.slots.specs.Slots.{NextHit, Passed, Stands}
+use Rattle.slots.specs.Slots.{Passed}
 use Rattle.slots.proofs.Laws.{does-stand, does-not-stand, pass-over}
 use Rattle.slots.proofs.scan.hit_in_rest.Statement.{statement}
 use Rattle.slots.proofs.scan.hit_in_rest.Tie as tie

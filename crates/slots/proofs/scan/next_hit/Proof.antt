@@ -41,8 +41,7 @@ loop-less c = omega arith
 
 loop-again : tie.Need-loop-again Inv-loop μ-loop
 loop-again c =
-    let at = c .before .before .before in
-    (
+    let at = c .before .before .before in (
       omega arith,
       omega arith,
       refl,

@@ -1,12 +1,12 @@
 -- `scan`: up to the next entry that stands, then past it.
-use Prim.Native.Nat.{ℕ, _+_, _-_, _/_, _<_, _≤_, _^_}
+use Prim.Native.Nat.{ℕ, _+_, _-_, _/_, _<_}
 use mathlib.Core.List.{List}
-use mathlib.Core.Path.{_≡_, refl, sym, ap, subst, _∙_}
+use mathlib.Core.Path.{_≡_, refl, sym, subst, _∙_}
 use native.Mathlib.Omega.{arith}
 use borrow.Author.Needs.{needs}
 use denote.Ref.{now}
-use lib.ListN.{length, getD}
-use Rattle.lists.specs.Wire.{entries, versionBytes, turned}
+use lib.ListN.{length}
+use Rattle.lists.specs.Wire.{entries, versionBytes}
 use Rattle.lists.proofs.Entries.{length-entries}
 use Rattle.slots.specs.Limits.{slotCount}
 use Rattle.slots.specs.Slots.{Scanned, Emptied, slotOf}

@@ -1,6 +1,5 @@
 -- `filler`: 0, but 1 for the slot of 0.
 use borrow.Author.Tests.{eq-eqb, ne-eqb}
-use Rattle.slots.specs.Slots.{fillerOf}
 use Rattle.slots.proofs.slot.filler.Statement.{statement}
 use Rattle.slots.proofs.slot.filler.Tie as tie
 
