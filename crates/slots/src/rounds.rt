@@ -10,6 +10,7 @@ ghost use Rattle.versions.specs.Table.{elem};
 ghost use Rattle.slots.specs.First.{firstPlace};
 ghost use Rattle.slots.specs.Slots.{Judged, Marked, MarkedTold, NoneNew, Stands, Told, IsFactor};
 use crate::ABSENT;
+use crate::FEW;
 use crate::SLOTS;
 use crate::factors::best_factor;
 use crate::scan::scan;
@@ -25,7 +26,7 @@ use versions::MAX_TABLE;
 const WAITING: u8 = 1;
 
 const STANDING: u8 = 2;
-// So many rounds, then passes for what is left. A table that clashes on purpose took three at the most (docs/BENCHMARKS.md).
+// So many rounds at the most. A table that clashes on purpose took two (docs/BENCHMARKS.md).
 const ROUNDS: usize = 8;
 
 // The place of the first entry of the table that occurs in the list, where the table is no longer than the marks and its
@@ -40,8 +41,8 @@ pub(crate) fn by_slots(table: &[u32], bytes: &[u8]) -> usize
     let mut round = 0;
     while round < ROUNDS {
         best = one_round(table, bytes, &mut marks, best);
-        if all_absent(&marks, best) {
-            return best;
+        if are_few(&marks, best) {
+            break;
         }
         round += 1;
     }
@@ -61,19 +62,20 @@ fn one_round(table: &[u32], bytes: &[u8], marks: &mut [u8; MAX_TABLE], best: usi
     judge(&slots, table, bytes, at, &mut *marks, best, factor)
 }
 
-// Puts the words of the entries that are not judged yet into their slots. Of two in one slot the later one stands.
+// Puts the words of the entries that are not judged yet into their slots, from the last one down: of two in one slot the
+// preferred one stands.
 fn put(slots: &mut [u32; SLOTS], table: &[u32], marks: &[u8; MAX_TABLE], upto: usize, factor: u64)
     requires { ⌜ IsFactor factor × (upto ≤ length (now table)) × (upto ≤ maxTable) ⌝ }
     ensures { λ _. ⌜ length (now (slots .exit)) ≡ length (now (slots .entry)) ⌝ }
 {
-    let mut k = 0;
-    while k < upto {
+    let mut k = upto;
+    while 0 < k {
+        k -= 1;
         if marks[k] != ABSENT {
             let word = turned(table[k]);
             let slot = slot_of(word, factor);
             slots[slot] = word;
         }
-        k += 1;
     }
 }
 
@@ -103,8 +105,8 @@ fn mark_of(slots: &[u32; SLOTS], version: u32, factor: u64) -> u8
     WAITING
 }
 
-// Judges the entries that stood in their slots, in table order up to the first that the list holds: its place is the
-// answer, or `best` where there is none.
+// Judges the entries that are due, in table order up to the first that the list holds: its place is the answer, or `best`
+// where there is none.
 fn judge(
     slots: &[u32; SLOTS],
     table: &[u32],
@@ -121,8 +123,9 @@ fn judge(
 {
     let mut k = 0;
     while k < best {
-        if marks[k] == STANDING {
-            if was_found(slots, bytes, at, table[k], factor) {
+        let mark = marks[k];
+        if is_due(mark, k) {
+            if is_held(slots, bytes, at, mark, table[k], factor) {
                 return k;
             }
             marks[k] = ABSENT;
@@ -130,6 +133,26 @@ fn judge(
         k += 1;
     }
     best
+}
+
+// Whether an entry is judged in this round: it stood in its slot; or it is one of the table's first, for which a pass is
+// quicker than another round. No answer rests on it.
+fn is_due(mark: u8, place: usize) -> bool {
+    if mark == WAITING {
+        return place < FEW;
+    }
+    mark == STANDING
+}
+
+// Whether the list holds a version: by what the slots tell where it stood in its slot, else by a pass.
+fn is_held(slots: &[u32; SLOTS], bytes: &[u8], at: usize, mark: u8, version: u32, factor: u64) -> bool
+    requires { ⌜ IsFactor factor × (at ≤ length (entries (now bytes))) × (mark ≡ 2 → Told (now slots) (entries (now bytes)) factor at version) ⌝ }
+    ensures { λ r. ⌜ r ≡ elem version (entries (now (bytes .entry))) ⌝ }
+{
+    if mark == STANDING {
+        return was_found(slots, bytes, at, version, factor);
+    }
+    contains_in_bytes(bytes, version)
 }
 
 // Whether the list holds a version that stood in its slot before the entries up to a place were looked up.
@@ -144,34 +167,36 @@ fn was_found(slots: &[u32; SLOTS], bytes: &[u8], at: usize, version: u32, factor
     true
 }
 
-// Whether every entry before a place is known to be absent.
-fn all_absent(marks: &[u8; MAX_TABLE], upto: usize) -> bool
+// Whether so few entries before a place are not judged yet that a pass for each is quicker than another round. No answer
+// rests on it.
+fn are_few(marks: &[u8; MAX_TABLE], upto: usize) -> bool
     requires { ⌜ upto ≤ maxTable ⌝ }
-    ensures { λ r. ⌜ (r ≡ true → (k : ℕ) → k < upto → getD (now (marks .entry)) k 0 ≡ 0) ⌝ }
 {
+    let mut count = 0;
     let mut k = 0;
     while k < upto {
         if marks[k] != ABSENT {
-            return false;
+            count += 1;
         }
         k += 1;
     }
-    true
+    count <= FEW
 }
 
-// The same as a round, by a pass over the list for each entry that is not judged yet: these are then all judged.
+// The place of the first entry of the table that occurs in the list: a pass over the list for each entry before the best
+// that is not judged yet.
 fn judge_by_passes(table: &[u32], bytes: &[u8], marks: &[u8; MAX_TABLE], best: usize) -> usize
     requires { ⌜ (best ≤ maxTable) × Judged (now table) (entries (now bytes)) (now marks) best ⌝ }
     ensures { λ r. ⌜ r ≡ firstPlace (now (table .entry)) (entries (now (bytes .entry))) ⌝ }
 {
-    let mut k = 0;
-    while k < best {
-        if marks[k] != ABSENT {
-            if contains_in_bytes(bytes, table[k]) {
-                return k;
+    let mut place = 0;
+    while place < best {
+        if marks[place] != ABSENT {
+            if contains_in_bytes(bytes, table[place]) {
+                return place;
             }
         }
-        k += 1;
+        place += 1;
     }
     best
 }

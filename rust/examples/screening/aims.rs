@@ -5,28 +5,33 @@ use crate::shapes::Group;
 use crate::short::{Choice, Search};
 use crate::text::{digits, ratio, title};
 
-/// What has an aim in ratios: the lists of a group, and the highest ratio.
-const RATIOS: [(&str, Group, &str, f64); 4] = [
+/// An aim in ratios: a name, the lists of a group, and the highest ratio.
+type Ratio = (&'static str, Group, &'static str, f64);
+
+const RATIOS: [Ratio; 4] = [
     ("nowhere", Group::Nowhere, "1/30", 1.0 / 30.0),
     ("table's last", Group::LastEntry, "1/30", 1.0 / 30.0),
-    ("table's first", Group::FirstEntry, "0.35", 0.35),
-    ("hostile", Group::Hostile, "0.8", 0.8),
+    FIRST,
+    HOSTILE,
 ];
+
+const FIRST: Ratio = ("table's first", Group::FirstEntry, "0.35", 0.35);
+const HOSTILE: Ratio = ("hostile", Group::Hostile, "0.8", 0.8);
+
+/// Those that a table keeps too whose entries clash. It takes several rounds where little is found.
+const RATIOS_OF_CLASHING: [Ratio; 2] = [FIRST, HOSTILE];
 
 /// The most nanoseconds of the search for the Original Version at the first place.
 const ORIGINAL_FIRST: f64 = 10.0;
 /// The highest ratio of a choice from a short list, or the most nanoseconds more.
 const SHORT: (f64, f64) = (1.2, 5.0);
 
-pub fn print(rows: &[Row], original_first: &Search, short: &[Choice]) {
+pub fn print(rows: &[Row], clashing: &[Row], original_first: &Search, short: &[Choice]) {
     title("Aims");
     println!("| aim | at most | seen | kept |");
     println!("|---|---:|---:|---|");
-    for (name, group, at_most, limit) in RATIOS {
-        let (seen, list) = worst(rows, group);
-        let name = format!("{}; the worst list: {}", name, list);
-        line(&name, at_most, &ratio(seen), seen <= limit);
-    }
+    ratios("", rows, &RATIOS);
+    ratios(", table that clashes", clashing, &RATIOS_OF_CLASHING);
     line(
         "Original Version at first place: what the search adds to a call",
         &format!("{} ns", ORIGINAL_FIRST),
@@ -49,23 +54,15 @@ pub fn print(rows: &[Row], original_first: &Search, short: &[Choice]) {
     println!();
 }
 
+fn ratios(which: &str, rows: &[Row], aims: &[Ratio]) {
+    for (name, group, at_most, limit) in aims {
+        let (seen, list) = worst(rows, *group);
+        let name = format!("{}{}; the worst list: {}", name, which, list);
+        line(&name, at_most, &ratio(seen), seen <= *limit);
+    }
+}
+
 fn line(aim: &str, at_most: &str, seen: &str, kept: bool) {
     let kept = if kept { "kept" } else { "not kept" };
     println!("| {} | {} | {} | {} |", aim, at_most, seen, kept);
-}
-
-/// Which hostile list was the worst, with the tables that have aims and with the one that has none.
-pub fn print_worst(rows: &[Row], clashing: &[Row]) {
-    for (which, rows) in [
-        ("with these two tables", rows),
-        ("with the table that clashes, which has no aim", clashing),
-    ] {
-        let (seen, name) = worst(rows, Group::Hostile);
-        println!(
-            "The worst hostile list {}: {}, {}.\n",
-            which,
-            name,
-            ratio(seen)
-        );
-    }
 }

@@ -2,7 +2,8 @@
 
 use crate::case::{Case, Measured};
 use crate::measure::grouped;
-use crate::random::slots::fewest_clashes;
+use crate::random::screening::FEW;
+use crate::random::slots::left_by_rounds;
 use crate::tables::{original, Table};
 use crate::text::{digits, ratio, title, us};
 use quic_version::{MAX_LIST, MAX_TABLE};
@@ -71,24 +72,23 @@ fn with_the_list(table: &Table, rounds: usize) -> Vec<Point> {
     points
 }
 
-/// With tables of 1 entry to the most: the first entries of this one. Clashes are those under the
-/// factor that has the fewest.
+/// With tables of 1 entry to the most: the last entries of this one.
 fn with_the_table(table: &Table, rounds: usize) -> Vec<Point> {
     title(&format!(
         "Growth with the table, nowhere, list of {}, {}",
         grouped(MAX_LIST),
         table.name
     ));
-    println!("| entries of the table | clashes | plain Rust, us | event by the crate, us | `qv_event`, us | ratio, crate | ratio, `qv_event` |");
+    println!("| entries of the table | left after each round | plain Rust, us | event by the crate, us | `qv_event`, us | ratio, crate | ratio, `qv_event` |");
     println!("|---:|---:|---:|---:|---:|---:|---:|");
     let mut points = Vec::new();
     for entries in TABLES {
-        let versions = &table.versions[..entries];
+        let versions = &table.versions[MAX_TABLE - entries..];
         let measured = nowhere(versions, &table.others, rounds);
         println!(
             "| {} | {} | {} | {} | {} | {} | {} |",
             entries,
-            fewest_clashes(versions).0,
+            left(versions),
             us(measured.plain()),
             us(measured.by_crate),
             us(measured.by_event),
@@ -99,4 +99,13 @@ fn with_the_table(table: &Table, rounds: usize) -> Vec<Point> {
     }
     println!();
     points
+}
+
+/// How many entries a round leaves for the next one or for passes, if there is a round at all.
+fn left(table: &[u32]) -> String {
+    if table.len() <= FEW {
+        return "no round".to_string();
+    }
+    let left = left_by_rounds(table).iter().map(usize::to_string).collect::<Vec<_>>();
+    left.join(", ")
 }

@@ -68,8 +68,7 @@ fn main() {
     let short = short::rows(&table, rounds);
     let original_first = short::original_at_first_place(&table, rounds);
 
-    aims::print(&rows, &original_first, &short);
-    aims::print_worst(&rows, &clashing_rows);
+    aims::print(&rows, &clashing_rows, &original_first, &short);
     if let Some(path) = svg {
         if let Err(error) = picture::write(&path, &growth) {
             eprintln!("screening: {}: {}", path, error);

@@ -78,6 +78,7 @@ fn one_match(table: &Table) -> Vec<Shape> {
     for (name, rank, first, last) in [
         ("table's first", 0, FirstEntry, FirstEntry),
         ("table's second", 1, Hostile, Hostile),
+        ("table's third", 2, Hostile, Hostile),
         ("table's last", MAX_TABLE - 1, LastEntry, LastEntry),
         ("Original Version", original, OriginalFirst, Hostile),
     ] {

@@ -1,5 +1,6 @@
 //! Full tables: random versions, versions in a row, and versions that clash in the library's slots.
 
+use crate::random::slots::sharing;
 use crate::random::Random;
 use quic_version::{MAX_LIST, MAX_TABLE};
 
@@ -41,10 +42,14 @@ impl Table {
         Table::new("versions in a row", versions, random)
     }
 
-    /// Versions that clash under every factor of the slots. No stranger picks them: a table is the
-    /// client's own.
+    /// Versions that clash under every factor of the slots, the second and the third in one slot
+    /// under the factor that is taken. No stranger picks them: a table is the client's own.
     pub fn clashing(random: &mut Random) -> Table {
-        let versions = random.clashing_table(DRAWS);
+        let mut versions = random.clashing_table(DRAWS);
+        let (one, other) = sharing(&versions).expect("they clash");
+        for version in [versions.remove(other), versions.remove(one)] {
+            versions.insert(1, version);
+        }
         Table::new("versions that clash", versions, random)
     }
 

@@ -2,7 +2,8 @@
 //! every border, hostile ones among them, drawn from a seed.
 
 use crate::model;
-use crate::random::screening::{SearchCall, LISTS, TABLES};
+use crate::random::screening::{SearchCall, Tables, LISTS, TABLES};
+use crate::random::slots::left_by_rounds;
 use crate::random::Random;
 use crate::seeded::screening::one_stream;
 use crate::seen::Seen;
@@ -12,7 +13,7 @@ use std::collections::BTreeMap;
 /// The fewest lists of a run with the default number of rounds.
 const FEWEST: usize = 200_000;
 /// The draws for one entry of a clashing table.
-const DRAWS: usize = 2_000;
+const DRAWS: usize = 20_000;
 
 /// What the calls have to answer, among others: that something is found, and that nothing is.
 const ANSWERS: [(&str, &[u32]); 5] = [
@@ -53,8 +54,15 @@ impl Searched {
             ("by slots", usize::from(c.is_by_slots())),
             ("answer", rank.unwrap_or(model::MAX_TABLE)),
         ] {
-            *self.counts.entry(property).or_insert(0) += 1;
+            self.add(property);
         }
+        if c.tables == Tables::Clashing && c.is_by_slots() {
+            self.add(("rounds", left_by_rounds(&c.table).len()));
+        }
+    }
+
+    fn add(&mut self, property: (&'static str, usize)) {
+        *self.counts.entry(property).or_insert(0) += 1;
     }
 
     fn count(&self, property: &'static str, value: usize) -> usize {
@@ -84,6 +92,8 @@ impl Searched {
             self.rare("list", borders.into_iter().chain(longer), 50),
             self.rare("lying", 0..16, 10_000),
             self.rare("by slots", [0, 1], FEWEST / 4),
+            // What a list costs where nothing is found: up to so many rounds, then passes.
+            self.rare("rounds", [1, 2, 3], 500),
             // Each place of a table, and none.
             self.rare("answer", 0..=model::MAX_TABLE, 200),
         ]

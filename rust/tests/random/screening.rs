@@ -255,10 +255,13 @@ impl Random {
         table
     }
 
-    /// The first entries of one of these tables in any order. In half of them two that share a slot
-    /// are among those that the table begins with.
+    /// The last entries of one of these tables, in half of them in any order. In a quarter two that
+    /// share a slot are among those that the table begins with.
     fn clashing(&mut self, entries: usize, clashing: &[Vec<u32>]) -> Vec<u32> {
-        let mut table = self.pick(clashing)[..entries].to_vec();
+        let mut table = self.pick(clashing)[MAX_TABLE - entries..].to_vec();
+        if self.one_in(2) {
+            return table;
+        }
         self.shuffle(&mut table);
         if self.one_in(2) {
             if let Some((one, other)) = sharing(&table) {

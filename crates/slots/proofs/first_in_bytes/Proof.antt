@@ -49,17 +49,21 @@ part-in-parts-start-2 c = search needs
 part-in-parts-end-2 : tie.Need-part-in-parts-end-2
 part-in-parts-end-2 c = search needs
 
+-- The entry of the function, seen from where the first entry was missed
+abbrev start : tie.Else2 → tie.Start
+start c = c .before .before .before .before .before .before .before
+
 in-parts-requires : tie.Need-in-parts-requires
 in-parts-requires c κs =
     let missed = c .before .before in
-    let start = missed .before .before .before .before .before .before .before in
-    rw (part-rest (now (start .args .table)) 0, part-rest (now (start .args .bytes)) 0)
+    let args = start missed .args in
+    rw (part-rest (now (args .table)) 0, part-rest (now (args .bytes)) 0)
     (sym (missed .before .contains-in-bytes .ensures) ∙ missed .if2 .left)
 
 returns-3 : tie.Need-returns-3
 returns-3 c =
-    let start = c .before .before .before .before .before .before .before .before .before .before in
-    rw (part-rest (now (start .args .table)) 0, part-rest (now (start .args .bytes)) 0) at (c .in-parts .ensures)
+    let args = start (c .before .before .before) .args in
+    rw (part-rest (now (args .table)) 0, part-rest (now (args .bytes)) 0) at (c .in-parts .ensures)
 
 pub first-in-bytes-spec : {M : Type 1} → statement M
 first-in-bytes-spec =

@@ -84,11 +84,11 @@ fn check_each_entry(table: &[u32]) {
 fn each_entry_of_each_table() {
     let mut random = Random::new(16);
     for _ in 0..4 {
-        let clashing = random.clashing_table(2_000);
-        assert!(fewest_clashes(&clashing[..9]).0 > 0);
+        let clashing = random.clashing_table(20_000);
+        assert!(fewest_clashes(&clashing[MAX_TABLE - 9..]).0 > 0);
         for entries in 1..=MAX_TABLE {
             check_each_entry(&versions(entries));
-            check_each_entry(&clashing[..entries]);
+            check_each_entry(&clashing[MAX_TABLE - entries..]);
         }
     }
 }

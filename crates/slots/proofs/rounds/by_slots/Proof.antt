@@ -1,12 +1,13 @@
 -- `by_slots`: round by round, and what is left by passes.
 use Prim.Native.Nat.{_-_, _≤_}
+use mathlib.Core.Logic.{⊎-elim}
 use native.Mathlib.Omega.{arith}
 use borrow.Author.Needs.{needs}
 use denote.Ref.{now}
 use Rattle.lists.specs.Wire.{entries}
 use Rattle.versions.specs.Limits.{maxTable}
 use Rattle.slots.specs.Slots.{Judged}
-use Rattle.slots.proofs.Laws.{judged-start, first-is}
+use Rattle.slots.proofs.Laws.{judged-start}
 use Rattle.slots.proofs.rounds.by_slots.Statement.{statement}
 use Rattle.slots.proofs.rounds.by_slots.Tie as tie
 
@@ -29,17 +30,10 @@ one-round-requires c κs =
     let at = c .before .before in
     (at .before .before .before .pre .0, at .loop .inv .1)
 
-all-absent-requires : tie.Need-all-absent-requires Inv-loop μ-loop
-all-absent-requires c κs =
+are-few-requires : tie.Need-are-few-requires Inv-loop μ-loop
+are-few-requires c κs =
     let start = c .before .before .before .before .before .before .before in
     omega (arith, start .pre .0, c .before .one-round .ensures .high)
-
-returns : tie.Need-returns Inv-loop μ-loop
-returns c =
-    let told = c .before .before .before .one-round .ensures in
-    let start = c .before .before .before .before .before .before .before .before .before in
-    first-is (now (start .args .table)) (entries (now (start .args .bytes))) (c .before .before .before .one-round .result)
-    (told .high) (λ k l. told .absent k l (c .before .all-absent .ensures (c .if1 .taken) k l)) (told .held)
 
 add-round : tie.Need-add-round Inv-loop μ-loop
 add-round c = omega arith
@@ -50,13 +44,21 @@ loop-less c = omega arith
 loop-again : tie.Need-loop-again Inv-loop μ-loop
 loop-again c = (omega arith, c .before .before .before .one-round .ensures)
 
+-- What is known after the last round
+judged : (c : tie.Left-loop Inv-loop μ-loop)
+    → Judged (now (c .before .before .before .before .args .table)) (entries (now (c .before .before .before .before .args .bytes)))
+    (c .loop-test .marks) (c .loop-test .best)
+judged c =
+    ⊎-elim (λ w. rw (w .1, w .2) (c .before .loop .inv .1)) (λ w. rw (w .6, w .7) (w .2 .ensures))
+    (c .loop-test .came)
+
 judge-by-passes-requires : tie.Need-judge-by-passes-requires Inv-loop μ-loop
 judge-by-passes-requires c κs =
-    let at = c .before .before in
-    (omega (arith, at .before .before .before .pre .0, at .loop .inv .1 .high), at .loop .inv .1)
+    let at = c .before in
+    (omega (arith, at .before .before .before .before .pre .0, judged at .high), judged at)
 
-returns-2 : tie.Need-returns-2 Inv-loop μ-loop
-returns-2 c = c .judge-by-passes .ensures
+returns : tie.Need-returns Inv-loop μ-loop
+returns c = c .judge-by-passes .ensures
 
 pub by-slots-spec : {M : Type 1} → statement M
 by-slots-spec =
@@ -67,10 +69,9 @@ by-slots-spec =
     array-write-marks
     loop-holds
     one-round-requires
-    all-absent-requires
-    returns
+    are-few-requires
     add-round
     loop-less
     loop-again
     judge-by-passes-requires
-    returns-2)
+    returns)

@@ -1,10 +1,12 @@
 -- `judge`: entry by entry.
-use Prim.Native.Nat.{ℕ, _-_, _≤_}
+use Prim.Native.Nat.{ℕ, _-_, _<_, _≤_}
 use mathlib.Core.List.{List}
 use mathlib.Core.Logic.{⊎-elim}
 use mathlib.Core.Path.{sym, subst, _∙_}
 use native.Mathlib.Omega.{arith}
+use borrow.Author.Needs.{needs}
 use denote.Ref.{now}
+use lib.ListN.{length}
 use Rattle.lists.specs.Wire.{entries}
 use Rattle.slots.specs.Slots.{Judged, MarkedTold}
 use Rattle.slots.proofs.Laws.{judged-held, absent-more, mark-was}
@@ -23,31 +25,42 @@ abbrev μ-loop : tie.MeasureT-loop
 loop-holds : tie.Need-loop-holds Inv-loop μ-loop
 loop-holds c = (omega arith, c .before .before .pre .3, c .before .before .pre .4)
 
-element-copy-out-if1 : tie.Need-element-copy-out-if1 Inv-loop μ-loop
-element-copy-out-if1 c = omega arith
+element-copy-out-mark : tie.Need-element-copy-out-mark Inv-loop μ-loop
+element-copy-out-mark c = omega arith
 
-mul-was-found : tie.Need-mul-was-found Inv-loop μ-loop
-mul-was-found c = omega (arith, c .before .before .before .loop .inv .1 .high)
+is-due-requires : tie.Need-is-due-requires Inv-loop μ-loop
+is-due-requires c κs = search needs
 
-shared-slice-read-was-found : tie.Need-shared-slice-read-was-found Inv-loop μ-loop
-shared-slice-read-was-found c = omega (arith, c .before .before .before .before .loop .inv .1 .high)
+-- The turn of the loop, seen from an entry that is due
+abbrev turn : tie.Then1 Inv-loop μ-loop → tie.In-loop Inv-loop μ-loop
+turn c = c .before .before .before
 
-was-found-requires : tie.Need-was-found-requires Inv-loop μ-loop
-was-found-requires c κs =
-    let at = c .before .before .before .before in
+-- Its place is one of the table
+inside : (c : tie.Then1 Inv-loop μ-loop) → turn c .before .loop .k < length (now (turn c .before .before .before .before .args .table))
+inside c = omega (arith, turn c .loop-test .taken, turn c .before .loop .inv .1 .high)
+
+mul-is-held : tie.Need-mul-is-held Inv-loop μ-loop
+mul-is-held c = omega (arith, inside c)
+
+shared-slice-read-is-held : tie.Need-shared-slice-read-is-held Inv-loop μ-loop
+shared-slice-read-is-held c = inside (c .before)
+
+is-held-requires : tie.Need-is-held-requires Inv-loop μ-loop
+is-held-requires c κs =
+    let at = turn (c .before) .before in
     let start = at .before .before .before in (
       start .pre .0,
       start .pre .2,
-      at .loop .inv .2 (at .loop .k) (c .before .before .before .loop-test .taken) (c .before .if1 .taken)
+      λ standing. at .loop .inv .2 (at .loop .k) (turn (c .before) .loop-test .taken) standing
           (omega (arith, c .shared-slice-known3 .given (at .loop .k))),
     )
 
 returns : tie.Need-returns Inv-loop μ-loop
 returns c =
-    let found = c .before in
-    let in-loop = found .before .before .before .before in
-    let at = in-loop .before in
-    judged-held (at .loop .k) (at .loop .inv .1) (in-loop .loop-test .taken) (sym (found .was-found .ensures) ∙ c .if2 .taken)
+    let held = c .before in
+    let here = turn (held .before .before) in
+    let at = here .before in
+    judged-held (at .loop .k) (at .loop .inv .1) (here .loop-test .taken) (sym (held .is-held .ensures) ∙ c .if2 .taken)
 
 element-write-marks : tie.Need-element-write-marks Inv-loop μ-loop
 element-write-marks c = omega arith
@@ -60,7 +73,7 @@ loop-less c = omega arith
 
 loop-again : tie.Need-loop-again Inv-loop μ-loop
 loop-again c =
-    let at = c .before .before .before in
+    let at = c .before .before .before .before in
     let args = at .before .before .before .args in
     let table = now (args .table) in
     let list = entries (now (args .bytes)) in
@@ -94,10 +107,11 @@ judge-spec =
     Inv-loop
     μ-loop
     loop-holds
-    element-copy-out-if1
-    mul-was-found
-    shared-slice-read-was-found
-    was-found-requires
+    element-copy-out-mark
+    is-due-requires
+    mul-is-held
+    shared-slice-read-is-held
+    is-held-requires
     returns
     element-write-marks
     add-k

@@ -16,11 +16,11 @@ use Rattle.slots.proofs.rounds.judge_by_passes.Statement.{statement}
 use Rattle.slots.proofs.rounds.judge_by_passes.Tie as tie
 
 abbrev Inv-loop : tie.InvT-loop
-Inv-loop table bytes marks best k₀ k =
-    (k ≤ best) × ((j : ℕ) → j < k → elem (getD table j 0) (entries bytes) ≡ false)
+Inv-loop table bytes marks best place₀ place =
+    (place ≤ best) × ((j : ℕ) → j < place → elem (getD table j 0) (entries bytes) ≡ false)
 
 abbrev μ-loop : tie.MeasureT-loop
-μ-loop table bytes marks best k₀ k = best - k
+μ-loop table bytes marks best place₀ place = best - place
 
 loop-holds : tie.Need-loop-holds Inv-loop μ-loop
 loop-holds c = (omega arith, λ j l. absurd (omega arith))
@@ -48,11 +48,11 @@ returns c =
     let found = c .before in
     let at = found .before .before .before .before .before in
     let args = at .before .before .before .args in
-    first-is (now (args .table)) (entries (now (args .bytes))) (at .loop .k) (omega (arith, judged at .high)) (at .loop .inv .1)
+    first-is (now (args .table)) (entries (now (args .bytes))) (at .loop .place) (omega (arith, judged at .high)) (at .loop .inv .1)
     (λ l. sym (found .contains-in-bytes .ensures) ∙ c .if2 .taken)
 
-add-k : tie.Need-add-k Inv-loop μ-loop
-add-k c = omega arith
+add-place : tie.Need-add-place Inv-loop μ-loop
+add-place c = omega arith
 
 loop-less : tie.Need-loop-less Inv-loop μ-loop
 loop-less c = omega arith
@@ -62,10 +62,10 @@ loop-again c =
     let at = c .before .before .before in
     let args = at .before .before .before .args in (
       omega arith,
-      below-more (λ (j : ℕ). elem (getD (now (args .table)) j 0) (entries (now (args .bytes))) ≡ false) (at .loop .k)
+      below-more (λ (j : ℕ). elem (getD (now (args .table)) j 0) (entries (now (args .bytes))) ≡ false) (at .loop .place)
           (at .loop .inv .1)
           (⊎-elim (λ w. sym (w .2 .ensures) ∙ w .3 .left)
-          (λ w. judged at .absent (at .loop .k) (c .before .before .loop-test .taken) (w .left)) (c .if1 .came)),
+          (λ w. judged at .absent (at .loop .place) (c .before .before .loop-test .taken) (w .left)) (c .if1 .came)),
     )
 
 returns-2 : tie.Need-returns-2 Inv-loop μ-loop
@@ -87,7 +87,7 @@ judge-by-passes-spec =
     shared-slice-read-contains-in-bytes
     contains-in-bytes-requires
     returns
-    add-k
+    add-place
     loop-less
     loop-again
     returns-2)

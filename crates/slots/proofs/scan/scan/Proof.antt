@@ -84,10 +84,12 @@ returns-2 : tie.Need-returns-2 Inv-loop μ-loop
 returns-2 c = past (c .before .before)
 
 loop-less : tie.Need-loop-less Inv-loop μ-loop
-loop-less c = omega (arith, on (c .before .before .before .before .before .before) .high)
+loop-less c = omega (arith, on (hit (c .before .before)) .high)
 
 loop-again : tie.Need-loop-again Inv-loop μ-loop
-loop-again c = (refl, c .before .before .empty .ensures .size ∙ at (c .before .before .before .before .before .before) .loop .inv .1, past (c .before .before))
+loop-again c =
+    let emptied = c .before .before in
+    (refl, emptied .empty .ensures .size ∙ at (hit emptied) .loop .inv .1, past emptied)
 
 returns-3 : tie.Need-returns-3 Inv-loop μ-loop
 returns-3 c = c .before .loop .inv .2
