@@ -145,7 +145,14 @@ fn is_due(mark: u8, place: usize) -> bool {
 }
 
 // Whether the list holds a version: by what the slots tell where it stood in its slot, else by a pass.
-fn is_held(slots: &[u32; SLOTS], bytes: &[u8], at: usize, mark: u8, version: u32, factor: u64) -> bool
+fn is_held(
+    slots: &[u32; SLOTS],
+    bytes: &[u8],
+    at: usize,
+    mark: u8,
+    version: u32,
+    factor: u64,
+) -> bool
     requires { ⌜ IsFactor factor × (at ≤ length (entries (now bytes))) × (mark ≡ 2 → Told (now slots) (entries (now bytes)) factor at version) ⌝ }
     ensures { λ r. ⌜ r ≡ elem version (entries (now (bytes .entry))) ⌝ }
 {

@@ -25,7 +25,7 @@ pub(crate) fn slot_of(word: u32, factor: u64) -> usize
     ensures { λ r. ⌜ (r ≡ slotOf word factor) × (r < slotCount) ⌝ }
 {
     let product = (word as u64) * factor;
-    (product / 0x100000 % 4096) as usize
+    (product / 0x100000 % (SLOTS as u64)) as usize
 }
 
 // Whether a word stands in its slot.

@@ -116,6 +116,19 @@ impl Case {
         same(self.attempt.0.clone().datagram(&self.datagram), plain)
     }
 
+    /// The time of `qv_event` for the same datagram at an attempt that has other IDs.
+    pub fn of_another_connection(&self, rounds: usize) -> f64 {
+        let (table, original) = (&self.client.table[..], self.client.original);
+        let id = [0xee; MAX_ID];
+        let (record, datagram) = (
+            &raw::start(table, &[], original, &id, &id).attempt,
+            &self.datagram[..],
+        );
+        let event = || raw::event(&mut record.clone(), DATAGRAM, 0, opaque(datagram));
+        assert_eq!(event(), 63);
+        Turns::take(rounds, vec![Box::new(calls!(event()))]).time(0)
+    }
+
     pub fn measure(&self, rounds: usize) -> Measured {
         let (client, attempt, record) = (&self.client, &self.attempt.0, &self.record.0);
         let (datagram, list) = (&self.datagram[..], self.list());

@@ -106,6 +106,7 @@ fn left(table: &[u32]) -> String {
     if table.len() <= FEW {
         return "no round".to_string();
     }
-    let left = left_by_rounds(table).iter().map(usize::to_string).collect::<Vec<_>>();
+    let left = left_by_rounds(table);
+    let left: Vec<String> = left.iter().map(usize::to_string).collect();
     left.join(", ")
 }

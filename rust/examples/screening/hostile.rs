@@ -63,7 +63,8 @@ pub fn worst(rows: &[Row], group: Group) -> (f64, &str) {
     worst
 }
 
-/// What an event does here in any case: it copies a record, and looks at each entry.
+/// What an event does here in any case: it copies a record, and looks at each entry. And what it takes
+/// where the packet is of another connection: its list is then not looked at.
 pub fn references(table: &Table, rounds: usize) {
     let case = Case::new(&table.versions, original(&table.versions), &table.others);
     let (attempt, measured) = (case.attempt(), case.measure(rounds));
@@ -72,6 +73,7 @@ pub fn references(table: &Table, rounds: usize) {
     let copy = calls!(kept[opaque(0)].clone_from(opaque(attempt)));
     let copied = Turns::take(rounds, vec![Box::new(copy)]).time(0);
     assert!(kept.iter().all(|kept| kept == attempt));
+    let other = case.of_another_connection(rounds);
     title("Beside them");
     println!("| | us |");
     println!("|---|---:|");
@@ -79,6 +81,10 @@ pub fn references(table: &Table, rounds: usize) {
     println!(
         "| one pass that only sums the list | {} |",
         us(measured.sum)
+    );
+    println!(
+        "| event, packet of another connection (63) | {} |",
+        us(other)
     );
     println!("| plain Rust, nowhere | {} |\n", us(measured.plain()));
 }

@@ -120,7 +120,8 @@ fn shared_twice() -> Vec<u32> {
         let back = inverse(factor);
         for apart in 1..1 << DROPPED {
             let difference = back.wrapping_mul(apart);
-            if FACTORS.iter().filter(|f| may_share(difference, **f)).count() > 1 {
+            let sharing = FACTORS.iter().filter(|f| may_share(difference, **f));
+            if sharing.count() > 1 {
                 differences.extend([difference, difference.wrapping_neg()]);
             }
         }

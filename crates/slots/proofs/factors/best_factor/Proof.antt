@@ -4,15 +4,16 @@ use mathlib.Core.Logic.{⊎-elim}
 use mathlib.Core.Path.{sym, subst}
 use native.Mathlib.Omega.{arith}
 use borrow.Author.Needs.{needs}
+use Rattle.slots.specs.Limits.{factorCount}
 use Rattle.slots.specs.Slots.{IsFactor}
 use Rattle.slots.proofs.factors.best_factor.Statement.{statement}
 use Rattle.slots.proofs.factors.best_factor.Tie as tie
 
 abbrev Inv-loop : tie.InvT-loop
-Inv-loop table marks upto best₀ least₀ i₀ best least i = (i ≤ 8) × IsFactor best
+Inv-loop table marks upto best₀ least₀ i₀ best least i = (i ≤ factorCount) × IsFactor best
 
 abbrev μ-loop : tie.MeasureT-loop
-μ-loop table marks upto best₀ least₀ i₀ best least i = 8 - i
+μ-loop table marks upto best₀ least₀ i₀ best least i = factorCount - i
 
 factor-at-requires : tie.Need-factor-at-requires Inv-loop μ-loop
 factor-at-requires c κs = search needs

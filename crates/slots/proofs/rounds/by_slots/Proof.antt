@@ -6,16 +6,17 @@ use borrow.Author.Needs.{needs}
 use denote.Ref.{now}
 use Rattle.lists.specs.Wire.{entries}
 use Rattle.versions.specs.Limits.{maxTable}
+use Rattle.slots.specs.Limits.{maxRounds}
 use Rattle.slots.specs.Slots.{Judged}
 use Rattle.slots.proofs.Laws.{judged-start}
 use Rattle.slots.proofs.rounds.by_slots.Statement.{statement}
 use Rattle.slots.proofs.rounds.by_slots.Tie as tie
 
 abbrev Inv-loop : tie.InvT-loop
-Inv-loop table bytes marks₀ best₀ round₀ marks best round = (round ≤ 8) × Judged table (entries bytes) marks best
+Inv-loop table bytes marks₀ best₀ round₀ marks best round = (round ≤ maxRounds) × Judged table (entries bytes) marks best
 
 abbrev μ-loop : tie.MeasureT-loop
-μ-loop table bytes marks₀ best₀ round₀ marks best round = 8 - round
+μ-loop table bytes marks₀ best₀ round₀ marks best round = maxRounds - round
 
 array-write-marks : tie.Need-array-write-marks Inv-loop μ-loop
 array-write-marks c = search needs

@@ -4,14 +4,15 @@ use native.Mathlib.Omega.{arith}
 use mathlib.Core.Path.{_≡_, refl}
 use borrow.Author.Needs.{needs}
 use lib.ListN.{length}
+use Rattle.slots.specs.Limits.{few}
 use Rattle.slots.proofs.scan.is_among_first.Statement.{statement}
 use Rattle.slots.proofs.scan.is_among_first.Tie as tie
 
 abbrev Inv-loop : tie.InvT-loop
-Inv-loop table word count k₀ k = (k ≤ 6) × (count ≡ length table)
+Inv-loop table word count k₀ k = (k ≤ few) × (count ≡ length table)
 
 abbrev μ-loop : tie.MeasureT-loop
-μ-loop table word count k₀ k = 6 - k
+μ-loop table word count k₀ k = few - k
 
 loop-holds : tie.Need-loop-holds Inv-loop μ-loop
 loop-holds c = (omega arith, refl)

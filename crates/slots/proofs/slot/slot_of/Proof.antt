@@ -8,9 +8,12 @@ use Rattle.slots.proofs.slot.slot_of.Tie as tie
 mul-product : tie.Need-mul-product
 mul-product c = record { fits = product-below 32 (search needs) (search needs) }
 
+rem-result : tie.Need-rem-result
+rem-result c = search needs
+
 returns : tie.Need-returns
 unfolding slotOf
 returns c = search needs
 
 pub slot-of-spec : {M : Type 1} → statement M
-slot-of-spec = tie.close (tie.spec mul-product returns)
+slot-of-spec = tie.close (tie.spec mul-product rem-result returns)
