@@ -18,7 +18,8 @@ use lists::VERSION_BYTES;
 use lists::contains_in_bytes;
 use versions::MAX_TABLE;
 
-// A table of so many entries is sought entry by entry, each by a pass over the list.
+// So many entries, of a table or left by a round, are sought each by a pass over the list. So many of the table's first
+// are judged in the first round.
 const FEW: usize = 6;
 // How many slots there are.
 const SLOTS: usize = 4096;
