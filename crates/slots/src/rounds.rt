@@ -1,8 +1,8 @@
 // The search by slots. Each round puts the entries that are not judged yet into slots and looks the whole list up. An
-// entry that lost its slot to another is judged in a later round.
-ghost use mathlib.Core.Bool.{true, false};
+// entry that lost its slot to another is judged in a later round or by a pass.
+ghost use mathlib.Core.Bool.{false};
 ghost use mathlib.Core.Path.{_≡_};
-ghost use Prim.Native.Nat.{ℕ, _<_, _≤_};
+ghost use Prim.Native.Nat.{_<_, _≤_};
 ghost use lib.ListN.{length, getD};
 ghost use Rattle.lists.specs.Wire.{entries};
 ghost use Rattle.versions.specs.Limits.{maxTable};
@@ -26,7 +26,7 @@ use versions::MAX_TABLE;
 const WAITING: u8 = 1;
 
 const STANDING: u8 = 2;
-// So many rounds at the most. A table that clashes on purpose took two (docs/BENCHMARKS.md).
+// So many rounds at the most. No table that was built on purpose would take more than three (docs/BENCHMARKS.md).
 const ROUNDS: usize = 8;
 
 // The place of the first entry of the table that occurs in the list, where the table is no longer than the marks and its

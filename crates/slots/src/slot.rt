@@ -1,6 +1,6 @@
 // Words and their slots. A word is a version turned, as an entry of a list is read by one load.
 ghost use mathlib.Core.Path.{_≡_};
-ghost use Prim.Native.Nat.{_<_, _≤_, _/_, _^_};
+ghost use Prim.Native.Nat.{_<_, _/_, _^_};
 ghost use lib.Dec.{eqb};
 ghost use lib.ListN.{length, getD};
 ghost use Rattle.lists.specs.Wire.{entries, turned, versionBytes};
