@@ -4,7 +4,7 @@ use mathlib.Core.Bool.{Bool, true, false, cond, _&&_}
 use mathlib.Core.List.{List, [], _∷_}
 use mathlib.Core.Path.{_≡_, refl, ap}
 use lib.Dec.{leb, ltb, eqb}
-use borrow.Author.Tests.{eqb-true, leb-true, ne-eqb}
+use borrow.Author.Tests.{eqb-true, leb-true, ne-eqb, le-ltb, lt-leb}
 use native.Mathlib.Nat.{not-suc-le-zero}
 use native.Mathlib.Decide.{decLt}
 use native.Mathlib.Omega.{arith}
@@ -41,6 +41,10 @@ at-each p (suc k) e n h = go (both-true (p k) (everyBelow p k) e) (decLt n k) (a
     go b (yes l) ih = ih (b .1) n l
     go b (no l) ih = let z : n ≡ k = omega arith in rw z (b .0)
 
+-- the codes of the numbers after 75 as the code tells them, by ranges
+abbrev pub rangedLate : ℕ → Close
+rangedLate n = cond (ltb n 80) Nothing (cond (leb n 82) (With 0x08) (cond (eqb n 85) (With 0x08) Nothing))
+
 -- the codes as the code tells them, by ranges
 abbrev pub ranged : ℕ → Close
 ranged n =
@@ -48,7 +52,7 @@ ranged n =
     (cond (leb n 36) (With 0x08)
     (cond (eqb n 51) (With 0x11)
     (cond (ltb n 71) Nothing
-    (cond (leb n 75) (With 0x11) Nothing))))
+    (cond (leb n 75) (With 0x11) (rangedLate n)))))
 
 agree : ℕ → Bool
 agree n = same (codeIn table n) (ranged n)
@@ -56,6 +60,18 @@ agree n = same (codeIn table n) (ranged n)
 pub by-ranges : (n : ℕ) → n < 256 → codeIn table n ≡ ranged n
 unfolding everyBelow same agree codeIn table
 by-ranges n h = same-eq (codeIn table n) (ranged n) (at-each agree 256 refl n h)
+
+pub late-by-ranges : (n : ℕ) → n < 256 → 75 < n → codeIn table n ≡ rangedLate n
+late-by-ranges n h l =
+    rw (
+      by-ranges n h,
+      le-ltb n 31 (omega (arith, l)),
+      lt-leb n 36 (omega (arith, l)),
+      ne-eqb n 51 (λ e. omega (arith, l, e)),
+      le-ltb n 71 (omega (arith, l)),
+      lt-leb n 75 l,
+    )
+    refl
 
 -- No number over a byte is in the table, so none has a code
 bytesOnly : List Row → Bool

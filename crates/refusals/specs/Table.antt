@@ -1,6 +1,7 @@
 -- Document 01, "When the desk says no": each number of the table, with its close code where what was read
 -- from the peer is refused. A row of the paper with no close code, or with a state in its place, has `Nothing`.
--- Document 02: "New numbers, here and later, join document 01's table without a close code"; here 20, of C-13.
+-- Document 02: "New numbers, here and later, join document 01's table without a close code, but this reader's have 0x08":
+-- 20 of C-13 has none; of C-11's, 80, 81, 82 and 85 are the reader's.
 use Prim.Native.Nat.{ℕ}
 use mathlib.Core.List.{List, [], _∷_}
 use Rattle.refusals.specs.declared.Close.{Close}
@@ -45,6 +46,12 @@ table =
     row 73 (With 0x11) ∷
     row 74 (With 0x11) ∷
     row 75 (With 0x11) ∷
+    row 80 (With 0x08) ∷
+    row 81 (With 0x08) ∷
+    row 82 (With 0x08) ∷
+    row 83 Nothing ∷
+    row 84 Nothing ∷
+    row 85 (With 0x08) ∷
     []
 
 unfoldable pub numbersOf : List Row → List ℕ

@@ -1,6 +1,7 @@
 // Refusals: each number of document 01's table under a name for its one cause, and the close code
 // that goes with it. Answers that every writer shares stand here too.
 ghost use mathlib.Core.Path.{_≡_};
+ghost use Prim.Native.Nat.{_<_};
 ghost use Rattle.refusals.specs.Table.{numbers, table};
 ghost use Rattle.refusals.specs.Close.{closeOf, codeIn};
 
@@ -76,6 +77,18 @@ impl Refusal {
     pub const AVAILABLE_EMPTY: Refusal = Refusal(74);
     // 75: acted, and the choice from Available and the version in use is not the attempted version.
     pub const DOWNGRADED: Refusal = Refusal(75);
+    // 80: the sequence of transport parameters, read or to write, has over 16,384 bytes.
+    pub const SEQUENCE_TOO_LONG: Refusal = Refusal(80);
+    // 81: a field of the sequence, or an integer, runs past the end.
+    pub const RUNS_PAST_THE_END: Refusal = Refusal(81);
+    // 82: an identifier occurs twice in the sequence.
+    pub const IDENTIFIER_REPEATED: Refusal = Refusal(82);
+    // 83: the integer to write is over 2^62 - 1.
+    pub const INTEGER_TOO_LARGE: Refusal = Refusal(83);
+    // 84: the buffer is shorter than the integer or the sequence to write.
+    pub const NO_ROOM_TO_WRITE: Refusal = Refusal(84);
+    // 85: the sequence, read or to write, has over 64 parameters.
+    pub const TOO_MANY_PARAMETERS: Refusal = Refusal(85);
 }
 
 // The kind of call that gave a refusal. Only what was read from the peer can close a connection.
@@ -99,7 +112,7 @@ pub enum Written {
 }
 
 // How many numbers document 01's table has.
-pub const COUNT: usize = 34;
+pub const COUNT: usize = 40;
 
 // Every number of document 01's table, in its order. Total, and it refuses nothing.
 pub fn all_numbers() -> [u8; COUNT]
@@ -140,6 +153,12 @@ pub fn all_numbers() -> [u8; COUNT]
         Refusal::CHOSEN_NOT_IN_USE.0,
         Refusal::AVAILABLE_EMPTY.0,
         Refusal::DOWNGRADED.0,
+        Refusal::SEQUENCE_TOO_LONG.0,
+        Refusal::RUNS_PAST_THE_END.0,
+        Refusal::IDENTIFIER_REPEATED.0,
+        Refusal::INTEGER_TOO_LARGE.0,
+        Refusal::NO_ROOM_TO_WRITE.0,
+        Refusal::TOO_MANY_PARAMETERS.0,
     ]
 }
 
@@ -172,6 +191,23 @@ fn code_in_the_table(number: u8) -> Close
     }
     if number <= 75 {
         return Close::With(0x11);
+    }
+    code_from_76(number)
+}
+
+// The same for the numbers after 75: those of transport parameters.
+fn code_from_76(number: u8) -> Close
+    requires { ⌜ 75 < number ⌝ }
+    ensures { λ r. ⌜ r ≡ codeIn table number ⌝ }
+{
+    if number < 80 {
+        return Close::Nothing;
+    }
+    if number <= 82 {
+        return Close::With(0x08);
+    }
+    if number == 85 {
+        return Close::With(0x08);
     }
     Close::Nothing
 }

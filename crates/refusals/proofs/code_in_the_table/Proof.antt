@@ -47,17 +47,12 @@ returns-5 c =
       le-leb _ _ (c .if5 .taken),
     )
 
+code-from-76-requires : tie.Need-code-from-76-requires
+code-from-76-requires c κs = c .if5 .left
+
 returns-6 : tie.Need-returns-6
-returns-6 c =
-    rw (
-      by-ranges _ (byte (c .before .before .before .before .before)),
-      le-ltb _ _ (c .before .before .before .before .if1 .left),
-      lt-leb _ _ (c .before .before .before .if2 .left),
-      ne-eqb _ _ (c .before .before .if3 .left),
-      le-ltb _ _ (c .before .if4 .left),
-      lt-leb _ _ (c .if5 .left),
-    )
+returns-6 c = c .code-from-76 .ensures
 
 pub code-in-the-table-spec : {M : Type 1} → statement M
 code-in-the-table-spec =
-    tie.close (tie.spec returns returns-2 returns-3 returns-4 returns-5 returns-6)
+    tie.close (tie.spec returns returns-2 returns-3 returns-4 returns-5 code-from-76-requires returns-6)

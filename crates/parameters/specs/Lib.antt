@@ -1,0 +1,4 @@
+pub mod Limits
+pub mod Reading
+pub mod Sequence
+pub mod Writing
