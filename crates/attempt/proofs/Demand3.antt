@@ -17,7 +17,8 @@ use Rattle.refusals.proofs.Rules.{both-true, lowest-clear}
 use Rattle.refusals.specs.Reply.{Reply.answered}
 use Rattle.choosing.specs.Choice.{preferred}
 use Rattle.versions.specs.Table.{elem}
-use Rattle.choosing.proofs.Laws.{elem-append, preferred-by-membership}
+use Rattle.choosing.proofs.Laws.{preferred-by-membership}
+use Rattle.versions.proofs.Lists.{elem-append}
 use Rattle.attempt.specs.Attempt.{isCompleted}
 use Rattle.attempt.specs.Demand.{actedWith, Handshake, outcomeAt, firstOutcome, VersionInformation, informationOf, Good, CompletedAgainst}
 use Rattle.attempt.specs.Events.{Handed, run}

@@ -5,7 +5,7 @@
 use Prim.Native.Nat.{ℕ, suc, _≤_}
 use native.Mathlib.Nat.{ℕ-set}
 use native.Mathlib.Omega.{arith}
-use mathlib.Core.Bool.{Bool, true, false, cond, _||_, or-true, or-assoc, false≢true, Bool-set}
+use mathlib.Core.Bool.{Bool, true, false, cond, _||_, or-true, false≢true, Bool-set}
 use mathlib.Core.List.{List, [], _∷_, _++_, append-nil, Option·toList}
 use mathlib.Core.List.{Perm, List·Permᴰ, List·Permᴰ·nil, List·Permᴰ·cons, List·Permᴰ·swap, List·Permᴰ·trans}
 use mathlib.Core.Logic.{∥∥₁-elim}
@@ -19,6 +19,7 @@ use Rattle.choosing.specs.Choice.{choose, preferred, orNothingInCommon}
 use Rattle.choosing.specs.Laws.{SameHeld, choiceList}
 use Rattle.lists.specs.Limits.{maxList}
 use Rattle.versions.specs.Table.{elem, tableKeepsRule}
+use Rattle.versions.proofs.Lists.{elem-append}
 use Rattle.choosing.proofs.Chosen.{bad-table}
 use Rattle.choosing.proofs.Judged.{judged-clear}
 
@@ -33,11 +34,6 @@ or-swap false q r = refl
 or-implied : (p q : Bool) → (p ≡ true → q ≡ true) → (p || q) ≡ q
 or-implied true q h = sym (h refl)
 or-implied false q h = refl
-
-pub elem-append : (v : ℕ) (a b : List ℕ) → elem v (a ++ b) ≡ (elem v a || elem v b)
-unfolding elem
-elem-append v [] b = refl
-elem-append v (x ∷ a) b = rw (elem-append v a b, or-assoc (eqb x v) (elem v a) (elem v b))
 
 -- A number put in at any place counts as one put in front
 pub elem-inserted : (w v : ℕ) (xs ys : List ℕ) → elem w (xs ++ v ∷ ys) ≡ elem w (v ∷ (xs ++ ys))

@@ -16,7 +16,7 @@ use Rattle.lists.specs.Wire.{entries, versionBytes}
 use Rattle.lists.specs.declared.Span.{Span}
 use Rattle.lists.proofs.Entries.{length-entries}
 use Rattle.choosing.specs.Choice.{preferred}
-use Rattle.choosing.proofs.Laws.{elem-append}
+use Rattle.versions.proofs.Lists.{elem-append}
 use Rattle.information.specs.Information.{chosenOf, availableOf, formRules, senderRules, versionsIn, readInformation}
 use Rattle.information.specs.declared.Presence.{Presence}
 use Rattle.information.specs.declared.Presence.the-variants.{Given}

@@ -24,7 +24,8 @@ use Rattle.lists.specs.Wire.{entryAt}
 use Rattle.lists.proofs.Entries.{entryAt-there, entryAt-past}
 use Rattle.choosing.specs.Choice.{orNothingInCommon, preferred, choose}
 use Rattle.choosing.proofs.Chosen.{bad-table}
-use Rattle.choosing.proofs.Laws.{elem-append, choose-preferred}
+use Rattle.choosing.proofs.Laws.{choose-preferred}
+use Rattle.versions.proofs.Lists.{elem-append}
 use Rattle.sets.specs.Sets.{heldWord, heldCount, listWord, chooseFromWord, joined}
 use Rattle.sets.proofs.Lowest.{preferred-by-word, lowest-there, lowest-past, word-bad-table, word-made}
 

@@ -1,8 +1,8 @@
 -- A walk over a list, entry by entry: at each place i the rest `drop i xs` answers for the whole. Each definition
 -- of specs/ over a list is read here at such a rest: what its first entry decides, what it leaves, and the end.
 use Prim.Native.Nat.{ℕ, suc, _+_, _-_, _<_, _≤_}
-use mathlib.Core.Bool.{Bool, true, false, cond, _||_}
-use mathlib.Core.List.{List, [], _∷_}
+use mathlib.Core.Bool.{Bool, true, false, cond, _||_, or-assoc}
+use mathlib.Core.List.{List, [], _∷_, _++_}
 use mathlib.Core.Path.{_≡_, refl, ap}
 use native.Mathlib.Nat.{le-refl}
 use native.Mathlib.Numerals.{add-one}
@@ -41,6 +41,12 @@ module _ (v : ℕ) (xs : List ℕ) (i : ℕ) where
 
   pub elem-part : elem v (take (length xs - i) (drop i xs)) ≡ elem v (drop i xs)
   elem-part = ap (elem v) (part-rest xs i)
+
+-- A list behind another
+pub elem-append : (v : ℕ) (a b : List ℕ) → elem v (a ++ b) ≡ (elem v a || elem v b)
+unfolding elem
+elem-append v [] b = refl
+elem-append v (x ∷ a) b = rw (elem-append v a b, or-assoc (eqb x v) (elem v a) (elem v b))
 
 -- `placeOf`, version v: the place in the whole is i more than that in the rest
 module _ (v : ℕ) (xs : List ℕ) (i : ℕ) where

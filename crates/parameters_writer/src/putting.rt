@@ -1,0 +1,1 @@
+// The new sequence put into a buffer that has room for it.
