@@ -1,6 +1,6 @@
 /*
- * A client and a server walk-through of quic_version.h, lists as words, the record's layout, and
- * NULL with length 0.
+ * A client and a server walk-through of quic_version.h, lists as words, transport parameters, the
+ * record's layout, and NULL with length 0.
  * After `scripts/install PREFIX`, with PREFIX/lib/pkgconfig in PKG_CONFIG_PATH:
  *
  *     gcc -std=c99 example.c $(pkg-config --cflags --libs quic-version) -o example
@@ -53,7 +53,7 @@ static void layout(void)
     size_t i;
 
     EXPECT(qv_interface_version() == QV_INTERFACE_VERSION);
-    EXPECT(qv_interface_5() == QV_INTERFACE_VERSION);
+    EXPECT(qv_interface_6() == QV_INTERFACE_VERSION);
     EXPECT(qv_record_size() == sizeof(struct qv_attempt));
     for (i = 0; i < QV_MAX_TABLE; i++) {
         EXPECT(record.rows[i] == UINT64_C(0x1112131415161718));
@@ -269,6 +269,30 @@ static void null_with_length_0_as_words(void)
     EXPECT(qv_count_held_from_bytes(one, 1, NULL, 0, &count) == QV_OK && count == 0);
 }
 
+/* The same for transport parameters: in an empty sequence Version Information is missing. */
+static void null_with_length_0_as_parameters(void)
+{
+    static const uint8_t expected[] = {QV_VERSION_INFORMATION, 0};
+    uint8_t buffer[3] = {7, 7, 7};
+    uint32_t found = 7;
+    uint64_t value = 7;
+    size_t width = 7, count = 7, from = 7, to = 7;
+
+    EXPECT(qv_read_integer(NULL, 0, &value, &width) == QV_RUNS_PAST_THE_END);
+    EXPECT(value == 7 && width == 7);
+    EXPECT(qv_write_integer(0, NULL, 0, &count) == QV_NO_ROOM_TO_WRITE && count == 7);
+    EXPECT(qv_read_parameters(NULL, 0, &found, &from, &to) == QV_OK);
+    EXPECT(found == QV_MISSING && from == 0 && to == 0);
+    EXPECT(qv_write_parameters(NULL, 0, NULL, 0, NULL, 0, &count) == QV_NO_ROOM_TO_WRITE);
+    EXPECT(count == 7);
+
+    /* Nothing to keep, and a value of no bytes: it is not judged. */
+    EXPECT(qv_write_parameters(NULL, 0, NULL, 0, buffer, sizeof buffer, &count) == QV_OK);
+    EXPECT(count == sizeof expected && memcmp(buffer, expected, count) == 0 && buffer[2] == 7);
+    EXPECT(qv_read_parameters(buffer, count, &found, &from, &to) == QV_OK);
+    EXPECT(found == QV_GIVEN && from == 2 && to == 2);
+}
+
 /* Every call refuses this record with 255, and leaves it as found. */
 static void no_attempt(struct qv_attempt attempt)
 {
@@ -418,6 +442,250 @@ static void words_at_the_limits(void)
     EXPECT(word == UINT64_MAX && version == last && count == 1);
 }
 
+/* An integer and its shortest form: read, written, and refused where a byte is missing. */
+static void integer(uint64_t value, const uint8_t *bytes, size_t bytes_len)
+{
+    uint8_t buffer[9], found[9];
+    uint64_t read = 0;
+    size_t width = 0, count = 0;
+
+    memset(buffer, 0x77, sizeof buffer);
+    memcpy(found, buffer, sizeof buffer);
+    EXPECT(qv_read_integer(bytes, bytes_len - 1, &read, &width) == QV_RUNS_PAST_THE_END);
+    EXPECT(qv_write_integer(value, buffer, bytes_len - 1, &count) == QV_NO_ROOM_TO_WRITE);
+    EXPECT(read == 0 && width == 0 && count == 0 && memcmp(buffer, found, sizeof buffer) == 0);
+
+    EXPECT(qv_read_integer(bytes, bytes_len, &read, &width) == QV_OK);
+    EXPECT(read == value && width == bytes_len);
+    EXPECT(qv_write_integer(value, buffer, sizeof buffer, &count) == QV_OK);
+    EXPECT(count == bytes_len && memcmp(buffer, bytes, count) == 0);
+    EXPECT(memcmp(buffer + count, found + count, sizeof buffer - count) == 0);
+}
+
+/* Variable-length integers: the examples of RFC 9000 section A.1, and the borders of the widths. */
+static void integers(void)
+{
+    static const uint8_t longest[] = {0xc2, 0x19, 0x7c, 0x5e, 0xff, 0x14, 0xe8, 0x8c};
+    static const uint8_t of_four[] = {0x9d, 0x7f, 0x3e, 0x7d};
+    static const uint8_t of_two[] = {0x7b, 0xbd};
+    static const uint8_t of_one[] = {0x25};
+    static const uint8_t not_shortest[] = {0x40, 0x25};
+    static const struct {
+        uint64_t value;
+        size_t width;
+    } borders[] = {
+        {0, 1},     {63, 1},         {64, 2},         {16383, 2},
+        {16384, 4}, {1073741823, 4}, {1073741824, 8}, {QV_MAX_INTEGER, 8},
+    };
+    uint8_t buffer[9];
+    uint64_t value = 0;
+    size_t i, width = 0, count = 0;
+
+    integer(UINT64_C(151288809941952652), longest, sizeof longest);
+    integer(494878333, of_four, sizeof of_four);
+    integer(15293, of_two, sizeof of_two);
+    integer(37, of_one, sizeof of_one);
+
+    /* Read in any width, but written in the shortest. */
+    EXPECT(qv_read_integer(not_shortest, sizeof not_shortest, &value, &width) == QV_OK);
+    EXPECT(value == 37 && width == 2);
+    for (i = 0; i < sizeof borders / sizeof borders[0]; i++) {
+        EXPECT(qv_write_integer(borders[i].value, buffer, sizeof buffer, &count) == QV_OK);
+        EXPECT(count == borders[i].width);
+        integer(borders[i].value, buffer, count);
+    }
+
+    /* One more than the largest, before the room is looked at. */
+    memset(buffer, 0x77, sizeof buffer);
+    EXPECT(qv_write_integer(QV_MAX_INTEGER + 1, buffer, sizeof buffer, &count) ==
+           QV_INTEGER_TOO_LARGE);
+    EXPECT(qv_write_integer(UINT64_MAX, buffer, 0, &count) == QV_INTEGER_TOO_LARGE);
+    EXPECT(count == 8);
+    for (i = 0; i < sizeof buffer; i++) {
+        EXPECT(buffer[i] == 0x77);
+    }
+    EXPECT(qv_close_code(QV_INTEGER_TOO_LARGE, QV_CALL_WRITING) == QV_CLOSE_NONE);
+}
+
+/* Writes a sequence, and compares what was written, and that what follows it is as found. */
+static void rewritten(const uint8_t *old, size_t old_len, const uint8_t *value, size_t value_len,
+                      const uint8_t *expected, size_t expected_len)
+{
+    uint8_t buffer[64], found[64];
+    size_t count = 7;
+
+    memset(buffer, 0x77, sizeof buffer);
+    memcpy(found, buffer, sizeof buffer);
+    EXPECT(qv_write_parameters(old, old_len, value, value_len, buffer, expected_len - 1, &count) ==
+           QV_NO_ROOM_TO_WRITE);
+    EXPECT(count == 7 && memcmp(buffer, found, sizeof buffer) == 0);
+    EXPECT(qv_write_parameters(old, old_len, value, value_len, buffer, sizeof buffer, &count) ==
+           QV_OK);
+    EXPECT(count == expected_len && memcmp(buffer, expected, count) == 0);
+    EXPECT(memcmp(buffer + count, found + count, sizeof buffer - count) == 0);
+}
+
+/* Transport parameters: Version Information is found, replaced in its place, or appended. */
+static void parameters(void)
+{
+    /* max_idle_timeout of 10,000 ms; Chosen 1, in wider integers than it takes; an empty
+       initial_source_connection_id. */
+    static const uint8_t with[] = {0x01, 0x02, 0x67, 0x10, 0x40, 0x11, 0x40,
+                                   0x04, 0,    0,    0,    1,    0x0f, 0x00};
+    static const uint8_t without[] = {0x01, 0x02, 0x67, 0x10, 0x0f, 0x00};
+    /* Chosen 1, Available 2 and 1. */
+    static const uint8_t value[] = {0, 0, 0, 1, 0, 0, 0, 2, 0, 0, 0, 1};
+    static const uint8_t replaced[] = {0x01, 0x02, 0x67, 0x10, 0x11, 12, 0, 0, 0,    1,
+                                       0,    0,    0,    2,    0,    0,  0, 1, 0x0f, 0x00};
+    static const uint8_t appended[] = {0x01, 0x02, 0x67, 0x10, 0x0f, 0x00, 0x11, 12, 0, 0,
+                                       0,    1,    0,    0,    0,    2,    0,    0,  0, 1};
+    static const uint8_t shortest[] = {0x01, 0x02, 0x67, 0x10, 0x11, 0x04, 0, 0, 0, 1, 0x0f, 0x00};
+    uint32_t found = 7, chosen = 0;
+    size_t from = 7, to = 7, start = 0, end = 0;
+
+    EXPECT(qv_read_parameters(without, sizeof without, &found, &from, &to) == QV_OK);
+    EXPECT(found == QV_MISSING && from == 0 && to == 0);
+    EXPECT(qv_read_parameters(with, sizeof with, &found, &from, &to) == QV_OK);
+    EXPECT(found == QV_GIVEN && from == 8 && to == 12);
+
+    /* Written with the value that was found: the shortest form of the same sequence. */
+    rewritten(with, sizeof with, with + from, to - from, shortest, sizeof shortest);
+    rewritten(shortest, sizeof shortest, with + from, to - from, shortest, sizeof shortest);
+
+    /* Another value, in its place and last. Once more changes nothing. */
+    rewritten(with, sizeof with, value, sizeof value, replaced, sizeof replaced);
+    rewritten(replaced, sizeof replaced, value, sizeof value, replaced, sizeof replaced);
+    rewritten(without, sizeof without, value, sizeof value, appended, sizeof appended);
+    rewritten(appended, sizeof appended, value, sizeof value, appended, sizeof appended);
+
+    /* What was written is found, and is Version Information. */
+    EXPECT(qv_read_parameters(appended, sizeof appended, &found, &from, &to) == QV_OK);
+    EXPECT(found == QV_GIVEN && to - from == sizeof value);
+    EXPECT(memcmp(appended + from, value, sizeof value) == 0);
+    EXPECT(qv_read_information(QV_CLIENT, appended + from, to - from, &chosen, &start, &end) ==
+           QV_OK);
+    EXPECT(chosen == 1 && start == 4 && end == 12);
+}
+
+/* Reader and writer refuse a sequence with the same number, and leave all as found. */
+static void refused(const uint8_t *sequence, size_t sequence_len, uint32_t refusal)
+{
+    static uint8_t buffer[QV_MAX_SEQUENCE];
+    uint32_t found = 7;
+    size_t i, from = 7, to = 7, count = 7;
+
+    EXPECT(qv_read_parameters(sequence, sequence_len, &found, &from, &to) == refusal);
+    EXPECT(found == 7 && from == 7 && to == 7);
+    EXPECT(qv_close_code(refusal, QV_CALL_READING) == QV_TRANSPORT_PARAMETER_ERROR);
+
+    memset(buffer, 0x77, sizeof buffer);
+    EXPECT(qv_write_parameters(sequence, sequence_len, NULL, 0, buffer, sizeof buffer, &count) ==
+           refusal);
+    EXPECT(qv_write_parameters(sequence, sequence_len, NULL, 0, NULL, 0, &count) == refusal);
+    EXPECT(count == 7);
+    for (i = 0; i < sizeof buffer; i++) {
+        EXPECT(buffer[i] == 0x77);
+    }
+    EXPECT(qv_close_code(refusal, QV_CALL_WRITING) == QV_CLOSE_NONE);
+}
+
+/* Empty parameters with so many identifiers in a row. Returns the count of bytes. */
+static size_t empty_parameters(uint64_t first, size_t parameters, uint8_t *sequence)
+{
+    size_t i, width = 0, at = 0;
+
+    for (i = 0; i < parameters; i++) {
+        EXPECT(qv_write_integer(first + i, sequence + at, 8, &width) == QV_OK);
+        at += width;
+        sequence[at] = 0;
+        at++;
+    }
+    return at;
+}
+
+/* Each refusal of a sequence that was there, the lowest number first over all of it. */
+static void parameters_refused(void)
+{
+    static const uint8_t cut_identifier[] = {0x05, 0x00, 0x40};
+    static const uint8_t cut_length[] = {0x05, 0x00, 0x06};
+    static const uint8_t cut_value[] = {0x05, 0x02, 0xa1};
+    static const uint8_t repeated[] = {0x05, 0x00, 0x06, 0x00, 0x40, 0x05, 0x00};
+    static const uint8_t ours_twice[] = {0x11, 0x00, 0x11, 0x00};
+    static const uint8_t cut_behind_a_repeat[] = {0x05, 0x00, 0x05, 0x00, 0x06};
+    static uint8_t sequence[QV_MAX_SEQUENCE + 1];
+    size_t count;
+
+    refused(sequence, sizeof sequence, QV_SEQUENCE_TOO_LONG);
+    refused(cut_identifier, sizeof cut_identifier, QV_RUNS_PAST_THE_END);
+    refused(cut_length, sizeof cut_length, QV_RUNS_PAST_THE_END);
+    refused(cut_value, sizeof cut_value, QV_RUNS_PAST_THE_END);
+    refused(repeated, sizeof repeated, QV_IDENTIFIER_REPEATED);
+    refused(ours_twice, sizeof ours_twice, QV_IDENTIFIER_REPEATED);
+    refused(cut_behind_a_repeat, sizeof cut_behind_a_repeat, QV_RUNS_PAST_THE_END);
+
+    count = empty_parameters(0, QV_MAX_PARAMETERS + 1, sequence);
+    refused(sequence, count, QV_TOO_MANY_PARAMETERS);
+    refused(sequence, count - 1, QV_RUNS_PAST_THE_END);
+    count += empty_parameters(0, 1, sequence + count);
+    refused(sequence, count, QV_IDENTIFIER_REPEATED);
+
+    /* As many as a long sequence holds, far past the limit, and one of them once more. */
+    count = empty_parameters(64, 5460, sequence);
+    refused(sequence, count, QV_TOO_MANY_PARAMETERS);
+    count += empty_parameters(64, 1, sequence + count);
+    EXPECT(count == QV_MAX_SEQUENCE - 1);
+    refused(sequence, count, QV_IDENTIFIER_REPEATED);
+    refused(sequence, count - 1, QV_RUNS_PAST_THE_END);
+}
+
+/* The limits of sequences: what keeps them, and what a new one breaks, in the order 80, 84, 85. */
+static void parameters_at_the_limits(void)
+{
+    static uint8_t sequence[QV_MAX_SEQUENCE], buffer[QV_MAX_SEQUENCE + 8];
+    uint32_t found = 7;
+    size_t count = 0, from = 7, to = 7, old;
+
+    /* As many parameters as there may be, ours among them. */
+    old = empty_parameters(0, QV_MAX_PARAMETERS, sequence);
+    EXPECT(qv_read_parameters(sequence, old, &found, &from, &to) == QV_OK);
+    EXPECT(found == QV_GIVEN && from == 2 * QV_VERSION_INFORMATION + 2 && to == from);
+    EXPECT(qv_write_parameters(sequence, old, sequence, 4, buffer, old + 4, &count) == QV_OK);
+    EXPECT(count == old + 4);
+
+    /* As many others: ours does not go with them, but that there is no room comes first. */
+    old = empty_parameters(QV_VERSION_INFORMATION + 1, QV_MAX_PARAMETERS, sequence);
+    EXPECT(qv_read_parameters(sequence, old, &found, &from, &to) == QV_OK);
+    EXPECT(found == QV_MISSING && from == 0 && to == 0);
+    memset(buffer, 0x77, sizeof buffer);
+    EXPECT(qv_write_parameters(sequence, old, NULL, 0, buffer, old + 2, &count) ==
+           QV_TOO_MANY_PARAMETERS);
+    EXPECT(qv_write_parameters(sequence, old, NULL, 0, buffer, old + 1, &count) ==
+           QV_NO_ROOM_TO_WRITE);
+    EXPECT(qv_write_parameters(sequence, old, buffer, QV_MAX_SEQUENCE, NULL, 0, &count) ==
+           QV_SEQUENCE_TOO_LONG);
+    EXPECT(count == QV_MAX_PARAMETERS * 2 + 4 && buffer[0] == 0x77 && buffer[old + 1] == 0x77);
+
+    /* As many bytes as there may be, in one parameter: identifier 5, and a length in two bytes. */
+    memset(sequence, 0, sizeof sequence);
+    sequence[0] = 0x05;
+    EXPECT(qv_write_integer(QV_MAX_SEQUENCE - 3, sequence + 1, 2, &count) == QV_OK && count == 2);
+    EXPECT(qv_read_parameters(sequence, sizeof sequence, &found, &from, &to) == QV_OK);
+    EXPECT(found == QV_MISSING);
+    EXPECT(qv_write_parameters(sequence, sizeof sequence, NULL, 0, buffer, sizeof buffer, &count) ==
+           QV_SEQUENCE_TOO_LONG);
+    EXPECT(count == 2 && buffer[0] == 0x77);
+
+    /* Ours alone, as long as it may be, and a byte longer. */
+    EXPECT(qv_write_parameters(NULL, 0, sequence, QV_MAX_SEQUENCE - 3, buffer, sizeof buffer,
+                               &count) == QV_OK);
+    EXPECT(count == QV_MAX_SEQUENCE && buffer[QV_MAX_SEQUENCE] == 0x77);
+    EXPECT(qv_read_parameters(buffer, count, &found, &from, &to) == QV_OK);
+    EXPECT(found == QV_GIVEN && from == 3 && to == QV_MAX_SEQUENCE);
+    EXPECT(qv_write_parameters(NULL, 0, sequence, QV_MAX_SEQUENCE - 2, buffer, sizeof buffer,
+                               &count) == QV_SEQUENCE_TOO_LONG);
+    EXPECT(count == QV_MAX_SEQUENCE);
+}
+
 int main(void)
 {
     uint8_t packet[QV_MAX_PACKET];
@@ -428,12 +696,17 @@ int main(void)
     small_calls();
     words();
     words_at_the_limits();
+    integers();
+    parameters();
+    parameters_refused();
+    parameters_at_the_limits();
     count = server(packet);
     server_choice();
     client(packet, count);
     client_refuses(packet, count);
     null_with_length_0();
     null_with_length_0_as_words();
+    null_with_length_0_as_parameters();
     not_valid();
     puts("c example ok");
     return 0;

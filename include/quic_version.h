@@ -12,8 +12,9 @@
  *  - NULL is allowed exactly where the length given with it is 0;
  *  - a record is used by one thread at a time. There is no global state: distinct records on
  *    distinct threads are fine;
- *  - there is room on the stack: 18 KiB for an event and for a choice from bytes, 2 KiB for any
- *    other call;
+ *  - there is room on the stack: 18 KiB for an event and for a choice from bytes, 70 KiB for
+ *    qv_read_parameters and qv_write_parameters where a sequence has over 64 parameters, 2 KiB for
+ *    any other call;
  *  - x86-64 Linux.
  *
  * C99. Link with libquic_version.a, which scripts/install puts beside this header, or with
@@ -31,7 +32,7 @@ extern "C" {
 
 /* The release, and the interface that this header describes. */
 #define QV_RELEASE "0.1.0"
-#define QV_INTERFACE_VERSION 5u
+#define QV_INTERFACE_VERSION 6u
 
 /* On a function that answers a refusal: the compiler warns where the answer is not looked at. */
 #if defined(__GNUC__)
@@ -50,6 +51,10 @@ extern "C" {
 #define QV_MAX_UNUSED_BITS 127u     /* the unused bits of a Version Negotiation packet */
 #define QV_MAX_INFORMATION 1024u    /* bytes of Version Information */
 #define QV_MAX_AVAILABLE 255u       /* Available Versions */
+#define QV_MAX_SEQUENCE 16384u      /* bytes of a sequence of transport parameters */
+#define QV_MAX_PARAMETERS 64u       /* parameters of a sequence */
+/* A variable-length integer: 2^62 - 1 (RFC 9000 section 16). */
+#define QV_MAX_INTEGER UINT64_C(0x3fffffffffffffff)
 /* The fewest bytes of a datagram that is answered with a packet (RFC 9000 section 14.1). */
 #define QV_MIN_ANSWERED_DATAGRAM 1200u
 /* Bytes of a Version Negotiation packet that is written. */
@@ -92,6 +97,12 @@ extern "C" {
                                                 attempted version, is not the version in use */
 #define QV_AVAILABLE_EMPTY 74u               /* acted, Available empty */
 #define QV_DOWNGRADED 75u                    /* acted, the renewed choice is not the attempted version */
+#define QV_SEQUENCE_TOO_LONG 80u             /* transport parameters over 16,384 bytes */
+#define QV_RUNS_PAST_THE_END 81u             /* a transport parameter or an integer past the end */
+#define QV_IDENTIFIER_REPEATED 82u           /* an identifier of transport parameters twice */
+#define QV_INTEGER_TOO_LARGE 83u             /* an integer to write over 2^62 - 1 */
+#define QV_NO_ROOM_TO_WRITE 84u              /* the buffer is shorter than what is to write */
+#define QV_TOO_MANY_PARAMETERS 85u           /* over 64 transport parameters */
 #define QV_NOT_VALID 255u                    /* unknown kind, or a record that fails its tests */
 
 /* Close codes. */
@@ -152,7 +163,7 @@ uint32_t qv_interface_version(void);
  * that a library with another interface does not link (with GCC and Clang; else compare
  * qv_interface_version() with QV_INTERFACE_VERSION at the start).
  */
-uint32_t qv_interface_5(void);
+uint32_t qv_interface_6(void);
 #if defined(__GNUC__)
 #if defined(__has_attribute)
 #if __has_attribute(retain)
@@ -162,7 +173,7 @@ uint32_t qv_interface_5(void);
 #ifndef QV_KEPT
 #define QV_KEPT __attribute__((used))
 #endif
-static uint32_t (*const qv_linked_interface)(void) QV_KEPT = qv_interface_5;
+static uint32_t (*const qv_linked_interface)(void) QV_KEPT = qv_interface_6;
 #endif
 
 /* sizeof(struct qv_attempt) as the library has it. */
@@ -265,6 +276,57 @@ uint32_t qv_write_information(uint32_t sender, uint32_t chosen, const uint32_t *
 uint32_t qv_entry(const uint8_t *list, size_t list_len, size_t place, uint32_t *version);
 
 /*
+ * Reads the variable-length integer (RFC 9000 section 16) at the front of the bytes, in any of the
+ * four widths. What follows it is not looked at.
+ * Refusal: 81 (fewer bytes than its width, or none). It leaves value and width as found.
+ * Else: its value, at most QV_MAX_INTEGER, and the bytes that it takes: 1, 2, 4 or 8.
+ */
+QV_CHECKED
+uint32_t qv_read_integer(const uint8_t *bytes, size_t bytes_len, uint64_t *value, size_t *width);
+
+/*
+ * Writes a variable-length integer in the shortest width that holds it.
+ * Refusals, in order: 83, 84. They leave buffer and count as found.
+ * Else: *count bytes are written, 1, 2, 4 or 8; bytes past them keep their values.
+ */
+QV_CHECKED
+uint32_t qv_write_integer(uint64_t value, uint8_t *buffer, size_t buffer_len, size_t *count);
+
+/* The identifier of Version Information among transport parameters (RFC 9368 section 10.1). */
+#define QV_VERSION_INFORMATION 0x11u
+
+/* Whether transport parameters, or a handshake, had Version Information. */
+#define QV_MISSING 0u
+#define QV_GIVEN 1u
+
+/*
+ * Finds Version Information in a sequence of transport parameters (RFC 9000 section 18): for each
+ * its identifier, the length of its value, and the value. Other parameters are stepped over. 05 and
+ * 40 05 are the same identifier.
+ * Refusals, in order: 80, 81, 82, 85. The whole sequence is judged for each before the next. They
+ * leave found, start and end as found.
+ * Else: *found is QV_GIVEN, and the value lies from *start up to, not with, *end; or *found is
+ * QV_MISSING, and both are 0. The value is not judged. In an empty sequence it is missing.
+ */
+QV_CHECKED
+uint32_t qv_read_parameters(const uint8_t *sequence, size_t sequence_len, uint32_t *found,
+                            size_t *start, size_t *end);
+
+/*
+ * Writes a sequence of transport parameters anew, with `value` as its Version Information: in the
+ * place of the old one, or last where that is missing. The other parameters keep their values and
+ * their order. Every identifier and every length is written in the shortest width, so the new
+ * sequence can be shorter than the old one. The value is not judged. The buffer overlaps neither
+ * the old sequence nor the value.
+ * Refusals, in order: of the old sequence 80, 81, 82, 85, then of the new one 80, 84, 85. They
+ * leave buffer and count as found.
+ * Else: *count bytes are written, at most QV_MAX_SEQUENCE; bytes past them keep their values.
+ */
+QV_CHECKED
+uint32_t qv_write_parameters(const uint8_t *old, size_t old_len, const uint8_t *value,
+                             size_t value_len, uint8_t *buffer, size_t buffer_len, size_t *count);
+
+/*
  * The choice from a list: the first entry of the table that occurs in it.
  * Refusals, in order: 40, 41, 42. They leave *version as found.
  */
@@ -333,10 +395,6 @@ uint32_t qv_count_held(const uint32_t *table, size_t table_len, const uint32_t *
 QV_CHECKED
 uint32_t qv_count_held_from_bytes(const uint32_t *table, size_t table_len, const uint8_t *bytes,
                                   size_t bytes_len, size_t *count);
-
-/* Whether the handshake had Version Information. */
-#define QV_MISSING 0u
-#define QV_GIVEN 1u
 
 /*
  * The server's choice after a first flight in `version`.
@@ -481,6 +539,14 @@ static inline const char *qv_refusal_text(uint32_t number)
         return "the server's Available Versions are empty after Version Negotiation";
     case QV_DOWNGRADED:
         return "the server's Available Versions lead to another choice than the attempted version";
+    case QV_SEQUENCE_TOO_LONG: return "the sequence of transport parameters has over 16,384 bytes";
+    case QV_RUNS_PAST_THE_END:
+        return "a field of the transport parameters, or an integer, runs past the end";
+    case QV_IDENTIFIER_REPEATED: return "an identifier occurs twice among the transport parameters";
+    case QV_INTEGER_TOO_LARGE: return "the integer to write is over 2^62 - 1";
+    case QV_NO_ROOM_TO_WRITE:
+        return "the buffer is shorter than the integer or the transport parameters to write";
+    case QV_TOO_MANY_PARAMETERS: return "there are over 64 transport parameters";
     case QV_NOT_VALID: return "an unknown kind, or a record that could not be an attempt's";
     default: return "an unknown number";
     }

@@ -99,7 +99,7 @@ mod header {
 
     extern "C" {
         pub fn qv_interface_version() -> u32;
-        pub fn qv_interface_5() -> u32;
+        pub fn qv_interface_6() -> u32;
         pub fn qv_record_size() -> usize;
         pub fn qv_known_record() -> Record;
         pub fn qv_close_code(refusal: u32, call: u32) -> u64;
@@ -142,6 +142,34 @@ mod header {
             count: *mut usize,
         ) -> u32;
         pub fn qv_entry(list: *const u8, list_len: usize, place: usize, version: *mut u32) -> u32;
+        pub fn qv_read_integer(
+            bytes: *const u8,
+            bytes_len: usize,
+            value: *mut u64,
+            width: *mut usize,
+        ) -> u32;
+        pub fn qv_write_integer(
+            value: u64,
+            buffer: *mut u8,
+            buffer_len: usize,
+            count: *mut usize,
+        ) -> u32;
+        pub fn qv_read_parameters(
+            sequence: *const u8,
+            sequence_len: usize,
+            found: *mut u32,
+            start: *mut usize,
+            end: *mut usize,
+        ) -> u32;
+        pub fn qv_write_parameters(
+            old: *const u8,
+            old_len: usize,
+            value: *const u8,
+            value_len: usize,
+            buffer: *mut u8,
+            buffer_len: usize,
+            count: *mut usize,
+        ) -> u32;
         pub fn qv_choose(
             table: *const u32,
             table_len: usize,
@@ -247,7 +275,7 @@ mod header {
 /// link with a library of another interface. With Rust 1.63, GNU ld drops it as unused; so build.rs
 /// looks for the name, too.
 #[used]
-static INTERFACE: unsafe extern "C" fn() -> u32 = header::qv_interface_5;
+static INTERFACE: unsafe extern "C" fn() -> u32 = header::qv_interface_6;
 
 /// `qv_interface_version`.
 #[inline]
@@ -256,12 +284,12 @@ pub fn interface_version() -> u32 {
     unsafe { header::qv_interface_version() }
 }
 
-/// `qv_interface_5`, for tests/layout.rs alone.
+/// `qv_interface_6`, for tests/layout.rs alone.
 #[allow(dead_code)]
 #[inline]
-pub fn interface_5() -> u32 {
+pub fn interface_6() -> u32 {
     // SAFETY: it takes nothing.
-    unsafe { header::qv_interface_5() }
+    unsafe { header::qv_interface_6() }
 }
 
 /// `qv_record_size`, for tests/layout.rs alone.
@@ -395,6 +423,49 @@ pub fn write_information(
 pub fn entry(list: &[u8], place: usize, version: &mut u32) -> u32 {
     // SAFETY: a slice is valid for its length, and references do not overlap.
     unsafe { header::qv_entry(list.as_ptr(), list.len(), place, version) }
+}
+
+/// `qv_read_integer`.
+#[inline]
+pub fn read_integer(bytes: &[u8], value: &mut u64, width: &mut usize) -> u32 {
+    // SAFETY: a slice is valid for its length, and references do not overlap.
+    unsafe { header::qv_read_integer(bytes.as_ptr(), bytes.len(), value, width) }
+}
+
+/// `qv_write_integer`.
+#[inline]
+pub fn write_integer(value: u64, buffer: &mut [u8], count: &mut usize) -> u32 {
+    // SAFETY: a slice is valid for its length, and references do not overlap.
+    unsafe { header::qv_write_integer(value, buffer.as_mut_ptr(), buffer.len(), count) }
+}
+
+/// `qv_read_parameters`.
+#[inline]
+pub fn read_parameters(
+    sequence: &[u8],
+    found: &mut u32,
+    start: &mut usize,
+    end: &mut usize,
+) -> u32 {
+    // SAFETY: a slice is valid for its length, and references do not overlap.
+    unsafe { header::qv_read_parameters(sequence.as_ptr(), sequence.len(), found, start, end) }
+}
+
+/// `qv_write_parameters`.
+#[inline]
+pub fn write_parameters(old: &[u8], value: &[u8], buffer: &mut [u8], count: &mut usize) -> u32 {
+    // SAFETY: a slice is valid for its length, and references do not overlap.
+    unsafe {
+        header::qv_write_parameters(
+            old.as_ptr(),
+            old.len(),
+            value.as_ptr(),
+            value.len(),
+            buffer.as_mut_ptr(),
+            buffer.len(),
+            count,
+        )
+    }
 }
 
 /// `qv_choose`.

@@ -1,9 +1,9 @@
 //! The QUIC version layer (RFC 8999, RFC 9368), proved.
 //!
-//! Both ends get a reader of datagram headers, a reader and a writer of Version Information, the
-//! choice of a version from a list, and lists as words ([`list_word`]). A server gets a writer of Version Negotiation packets and
-//! the choice after a first flight. A client gets an [`Attempt`], from its first version to its
-//! end.
+//! Both ends get a reader of datagram headers, a reader and a writer of Version Information, a reader
+//! and a writer of the [`transport_parameters`] that carry it, the choice of a version from a list,
+//! and lists as words ([`list_word`]). A server gets a writer of Version Negotiation packets and the
+//! choice after a first flight. A client gets an [`Attempt`], from its first version to its end.
 //!
 //! The work is done by the static library of include/quic_version.h. Every function answers for
 //! every input. A [`Refusal`] is one number of document 01's table, and so is a writer's
@@ -51,6 +51,7 @@ mod choice;
 mod ffi;
 mod refusal;
 mod shown;
+pub mod transport_parameters;
 mod wire;
 mod words;
 
@@ -81,7 +82,7 @@ pub const VERSION_2: u32 = 0x6b33_43cf;
 /// The release: this crate's version, and that of the library with it.
 pub const RELEASE: &str = env!("CARGO_PKG_VERSION");
 /// The interface that this crate is written for. With a library of another one it does not link.
-pub const INTERFACE_VERSION: u32 = 5;
+pub const INTERFACE_VERSION: u32 = 6;
 /// The most entries of a table of versions.
 pub const MAX_TABLE: usize = ffi::MAX_TABLE;
 /// The most pairs of a table of compatible pairs.

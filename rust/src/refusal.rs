@@ -1,6 +1,6 @@
 //! Refusals: the numbers of document 01's table, which document 02's join, each with its one cause.
 //!
-//! Two types, since a close code belongs to the number and the call: document 01 has 33 to 36 close
+//! Two types, since a close code belongs to the number and the call: 33 to 36, 80 to 82 and 85 close
 //! with 0x08 when a reader gives them, and close nothing when a writer does.
 
 use crate::ffi;
@@ -45,6 +45,12 @@ macro_rules! words {
     (73) => { "the Chosen Version, or the attempted one where it is missing, is not the version in use" };
     (74) => { "the server's Available Versions are empty after Version Negotiation" };
     (75) => { "the server's Available Versions lead to another choice than the attempted version" };
+    (80) => { "the sequence of transport parameters has over 16,384 bytes" };
+    (81) => { "a field of the transport parameters, or an integer, runs past the end" };
+    (82) => { "an identifier occurs twice among the transport parameters" };
+    (83) => { "the integer to write is over 2^62 - 1" };
+    (84) => { "the buffer is shorter than the integer or the transport parameters to write" };
+    (85) => { "there are over 64 transport parameters" };
     (255) => { "an unknown kind, or a record that could not be an attempt's" };
 }
 
@@ -132,6 +138,10 @@ refusals! {
         73 ChosenNotInUse,
         74 AvailableEmpty,
         75 Downgraded,
+        80 SequenceTooLong,
+        81 RunsPastTheEnd,
+        82 IdentifierRepeated,
+        85 TooManyParameters,
         255 NotValid,
     }
 }
@@ -183,6 +193,12 @@ refusals! {
         35 AvailableHoldsZero,
         36 ChosenNotAvailable,
         37 NoRoomForInformation,
+        80 SequenceTooLong,
+        81 RunsPastTheEnd,
+        82 IdentifierRepeated,
+        83 IntegerTooLarge,
+        84 NoRoomToWrite,
+        85 TooManyParameters,
         255 NotValid,
     }
 }
@@ -192,8 +208,8 @@ const READING: u32 = 0;
 
 impl Refusal {
     /// The code to close the connection with: 0x08, TRANSPORT_PARAMETER_ERROR (RFC 9000 section
-    /// 20.1), for 31 to 36; 0x11, VERSION_NEGOTIATION_ERROR (RFC 9368 section 10.2), for 51 and 71
-    /// to 75; `None` for all others.
+    /// 20.1), for 31 to 36, 80 to 82 and 85; 0x11, VERSION_NEGOTIATION_ERROR (RFC 9368 section
+    /// 10.2), for 51 and 71 to 75; `None` for all others.
     pub fn close_code(self) -> Option<u64> {
         match ffi::close_code(u32::from(self.number()), READING) {
             0 => None,

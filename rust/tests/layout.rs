@@ -23,7 +23,7 @@ fn interface_version() {
         quic_version::interface_version(),
         quic_version::INTERFACE_VERSION
     );
-    assert_eq!(raw::interface_5(), quic_version::INTERFACE_VERSION);
+    assert_eq!(raw::interface_6(), quic_version::INTERFACE_VERSION);
 }
 
 #[test]

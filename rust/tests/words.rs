@@ -6,13 +6,15 @@ use std::fmt::{Debug, Display};
 use std::fs;
 
 /// The numbers of readers, choices, starts and events.
-const READING: [u8; 27] = [
+const READING: [u8; 31] = [
     11, 12, 13, 31, 32, 33, 34, 35, 36, 40, 41, 42, 43, 44, 45, 51, 61, 62, 63, 64, 65, 71, 72, 73,
-    74, 75, 255,
+    74, 75, 80, 81, 82, 85, 255,
 ];
 
 /// The numbers of writers.
-const WRITING: [u8; 15] = [11, 12, 20, 21, 22, 23, 24, 25, 26, 33, 34, 35, 36, 37, 255];
+const WRITING: [u8; 21] = [
+    11, 12, 20, 21, 22, 23, 24, 25, 26, 33, 34, 35, 36, 37, 80, 81, 82, 83, 84, 85, 255,
+];
 
 /// A number with its name and its words.
 type Row = (u8, String, String);
@@ -48,8 +50,8 @@ fn numbers_of_each_type() {
     }
 }
 
-/// Every number once, in rising order: document 01's 33, document 02's 20, and 255. A number that
-/// both types have has one name and the same words in both.
+/// Every number once, in rising order: document 01's 33, document 02's 20 and 80 to 85, and 255. A
+/// number that both types have has one name and the same words in both.
 fn all() -> Vec<Row> {
     let mut rows = [reading(), writing()].concat();
     rows.sort();
@@ -60,7 +62,7 @@ fn all() -> Vec<Row> {
 #[test]
 fn one_name_and_one_text_for_a_number() {
     let rows = all();
-    assert_eq!(rows.len(), 35);
+    assert_eq!(rows.len(), 41);
     for rows in rows.windows(2) {
         assert!(rows[0].0 < rows[1].0, "{:?}", rows);
     }

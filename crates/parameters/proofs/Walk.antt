@@ -13,11 +13,14 @@ use Rattle.refusals.specs.Reply.{Reply, Reply.refused, Reply.answered, refuse}
 use Rattle.refusals.specs.Rule.{Rule._when_, judged}
 use Rattle.refusals.specs.declared.Call.the-variants.{Reading}
 use Rattle.refusals.specs.declared.Close.{Close}
+use Rattle.refusals.specs.declared.Refusal.{Refusal}
 use Rattle.refusals.proofs.Rules.{answered-injective}
 use Rattle.integers.specs.Integers.{Found, readInteger}
 use Rattle.integers.proofs.RoundTrip.{read-within}
-use Rattle.parameters.specs.Sequence.{Field, behindId, behindLength, fieldAt, fieldsFrom, fieldsOf, followedBy, thenFrom, withId}
-use Rattle.parameters.proofs.Places.{ends-within}
+use Rattle.lists.specs.declared.Span.{Span}
+use Rattle.parameters.specs.Sequence.{Field, behindId, behindLength, fieldAt, fieldsFrom, fieldsOf, followedBy, parameterReply, thenFrom, withId}
+use Rattle.parameters.specs.declared.Parameter.{Parameter}
+use Rattle.parameters.specs.declared.Parameter.the-variants.{Refused, Read}
 
 pub no-answer : {A : Type 0} (n : ℕ) (c : Close) (a : A) → refused n c ≡ answered a → ⊥
 no-answer n c a e = let z : _≡_ {A = ℕ} 0 1 = cc in omega arith
@@ -159,3 +162,11 @@ module _ (s : List ℕ) (at : ℕ) (passed : List Field) (g : Going s at passed)
       none-left : (t : ℕ) → fieldsFrom t s at ≡ answered []
       none-left zero = refl
       none-left (suc t) = rw (le-leb (length s) at h)
+
+-- What a call of `read_parameter` told
+module _ (r : Parameter) (s : List ℕ) (at : ℕ) (told : parameterReply r ≡ fieldAt s at) where
+  pub told-field : (id : ℕ) (value : Span) → r ≡ Read id value → fieldAt s at ≡ answered (record { id = id; value = value })
+  told-field id value e = sym told ∙ ap parameterReply e
+
+  pub told-lost : (x : Refusal) → r ≡ Refused x → fieldAt s at ≡ refuse Reading (x .0)
+  told-lost x e = sym told ∙ ap parameterReply e

@@ -1,1 +1,6 @@
+pub mod Common
+pub mod Halves
+pub mod Marks
+pub mod Merging
 pub mod Passing
+pub mod Twice

@@ -17,7 +17,8 @@ use Rattle.parameters.specs.Limits.{maxParameters, versionInformation}
 use Rattle.parameters.specs.Reading.{carried, carriedReply}
 use Rattle.parameters.specs.Sequence.{Field, fieldAt, fieldsOf, idsOf}
 use Rattle.parameters.specs.declared.Carried.{Carried}
-use Rattle.parameters.proofs.Walk.{Going, stepped}
+use Rattle.parameters.specs.declared.Carried.the-variants.{Missing}
+use Rattle.parameters.proofs.Walk.{Going, begun, stepped}
 use Rattle.parameters_reader.specs.Walking.{noted, orHere}
 
 pub ids-append : (xs ys : List Field) → idsOf (xs ++ ys) ≡ idsOf xs ++ idsOf ys
@@ -50,6 +51,17 @@ pub record Passing (s ids : List ℕ) (at count : ℕ) (place : Carried) : Type 
   pub room : length ids ≡ maxParameters
   pub notes : length passed ≤ maxParameters → take (length passed) ids ≡ idsOf passed
   pub lies : carriedReply place ≡ answered (carried passed)
+
+pub starts : (s ids : List ℕ) → length ids ≡ maxParameters → Passing s ids 0 0 Missing
+unfolding carried idsOf
+starts s ids room = record {
+  passed = [];
+  going = begun s;
+  counts = refl;
+  room = room;
+  notes = λ _. refl;
+  lies = refl;
+}
 
 length-noted : (ids : List ℕ) (place id : ℕ) → length (noted ids place id) ≡ length ids
 length-noted ids place id = go (ltb place (length ids))

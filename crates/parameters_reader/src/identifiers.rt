@@ -3,7 +3,7 @@
 ghost use mathlib.Core.Bool.{false};
 ghost use mathlib.Core.Path.{_≡_};
 ghost use Prim.Native.Nat.{_≤_, _<_};
-ghost use lib.ListN.{getD, length, take};
+ghost use lib.ListN.{length, replicate, take};
 ghost use Rattle.versions.specs.Table.{elem};
 ghost use Rattle.parameters.specs.Limits.{maxSequence};
 ghost use Rattle.parameters.specs.Reading.{fieldsIn, runsPast};
@@ -61,19 +61,28 @@ pub(crate) fn many_repeat(sequence: &[u8]) -> bool
     large_repeat(sequence)
 }
 
-// Whether one below SMALL does. Each is marked.
+// Whether one below SMALL does.
 fn small_repeat(sequence: &[u8]) -> bool
     requires { ⌜ runsPast (fieldsOf (now sequence)) ≡ false ⌝ }
     ensures { λ r. ⌜ r ≡ repeats (below large (idsOf (fieldsIn (fieldsOf (now (sequence .entry)))))) ⌝ }
 {
     let mut seen = [false; PLACES];
+    mark_each(sequence, &mut seen)
+}
+
+// Marks each identifier below SMALL in places that have no mark, and answers whether one was marked before.
+fn mark_each(sequence: &[u8], seen: &mut [bool]) -> bool
+    requires read { ⌜ runsPast (fieldsOf (now sequence)) ≡ false ⌝ }
+    requires blank { ⌜ now seen ≡ replicate large false ⌝ }
+    ensures { λ r. ⌜ r ≡ repeats (below large (idsOf (fieldsIn (fieldsOf (now (sequence .entry)))))) ⌝ }
+{
     let mut at = 0;
     while at < sequence.len() {
         let one = read_parameter(sequence, at);
         let Parameter::Read { id, value } = one else {
             return false;
         };
-        if see(&mut seen, id) {
+        if see(seen, id) {
             return true;
         }
         at = value.end;

@@ -10,16 +10,29 @@
 //! are simple loops and are not inlined into the measuring loop; a call of the library is not
 //! either. An event changes the record, so each of its calls begins with a copy of the record; the
 //! first row of the events is that copy alone.
+//!
+//! A second table has hostile transport parameters, beside a pass of plain Rust that only steps over
+//! them. Last are the aims of C-11, and whether they were kept.
 
+mod aims;
 mod attempts;
 mod choices;
+mod hostile;
 mod measure;
+#[allow(dead_code)]
 #[path = "../../tests/random/packet.rs"]
 mod packet;
+mod parameters;
 mod plain;
 #[allow(dead_code)]
 #[path = "../../src/ffi.rs"]
 mod raw;
+#[allow(dead_code)]
+#[path = "../screening/text.rs"]
+mod text;
+#[allow(dead_code)]
+#[path = "../screening/turns.rs"]
+mod turns;
 mod versions;
 mod wire;
 mod words;
@@ -36,7 +49,10 @@ fn main() {
     choices::rows(&mut table);
     words::rows(&mut table);
     versions::rows(&mut table);
+    let read_and_written = parameters::rows(&mut table);
+    let hostile = hostile::rows(&mut table);
     table.end();
+    aims::print(read_and_written, &hostile);
     println!();
     println!(
         "Record: {} bytes.",

@@ -84,12 +84,26 @@ impl Table {
         Table { only, rows: 0 }
     }
 
-    /// Measures and prints one row. Each closure makes so many calls.
-    pub fn row(&mut self, name: &str, mut library: impl FnMut(u64), mut plain: impl FnMut(u64)) {
+    /// Whether a row of this name is asked for. It then counts as one of the table.
+    pub fn takes(&mut self, name: &str) -> bool {
         if matches!(&self.only, Some(text) if !name.contains(&text[..])) {
-            return;
+            return false;
         }
         self.rows += 1;
+        true
+    }
+
+    /// Measures and prints one row, if it is asked for, and answers the ratio. Each closure makes so
+    /// many calls.
+    pub fn row(
+        &mut self,
+        name: &str,
+        mut library: impl FnMut(u64),
+        mut plain: impl FnMut(u64),
+    ) -> Option<f64> {
+        if !self.takes(name) {
+            return None;
+        }
         // Twice the calls until the quickest of three runs of plain Rust is long enough.
         let mut calls = 1;
         while (0..3).any(|_| time(calls, &mut plain) * (calls as f64) < RUN) {
@@ -110,6 +124,7 @@ impl Table {
             nanoseconds(theirs),
             ours / theirs
         );
+        Some(ours / theirs)
     }
 
     /// A table without rows is an error of the caller's text.

@@ -12,6 +12,7 @@ mod checks;
 mod edges;
 #[path = "../model/mod.rs"]
 mod model;
+mod parameters;
 #[path = "../random/mod.rs"]
 mod random;
 #[allow(dead_code)]

@@ -6,9 +6,8 @@ use crate::random::screening::{SearchCall, Tables, LISTS, TABLES};
 use crate::random::slots::left_by_rounds;
 use crate::random::Random;
 use crate::seeded::screening::one_stream;
-use crate::seen::Seen;
+use crate::seen::{Counts, Seen};
 use crate::{all_streams, number_of, say, Found, DEFAULT_ROUNDS, DEFAULT_SEED};
-use std::collections::BTreeMap;
 
 /// The fewest lists of a run with the default number of rounds.
 const FEWEST: usize = 200_000;
@@ -28,16 +27,13 @@ const ANSWERS: [(&str, &[u32]); 5] = [
 #[derive(Default)]
 pub struct Searched {
     pub seen: Seen,
-    /// How often a property of a list had each value.
-    counts: BTreeMap<(&'static str, usize), usize>,
+    counts: Counts,
 }
 
 impl Found for Searched {
     fn join(&mut self, other: Searched) {
         self.seen.join(other.seen);
-        for (property, count) in other.counts {
-            *self.counts.entry(property).or_insert(0) += count;
-        }
+        self.counts.join(other.counts);
     }
 }
 
@@ -46,7 +42,7 @@ impl Searched {
         let kind = c.tables as usize * LISTS.len() + c.lists as usize;
         let choice = model::choose(&c.table, &c.list);
         let rank = c.table.iter().position(|v| choice == Ok(*v));
-        for property in [
+        for (property, value) in [
             ("kind", kind),
             ("table", c.table.len()),
             ("list", c.list.len()),
@@ -54,48 +50,29 @@ impl Searched {
             ("by slots", usize::from(c.is_by_slots())),
             ("answer", rank.unwrap_or(model::MAX_TABLE)),
         ] {
-            self.add(property);
+            self.counts.add(property, value);
         }
         if c.tables == Tables::Clashing && c.is_by_slots() {
-            self.add(("rounds", left_by_rounds(&c.table).len()));
+            self.counts.add("rounds", left_by_rounds(&c.table).len());
         }
-    }
-
-    fn add(&mut self, property: (&'static str, usize)) {
-        *self.counts.entry(property).or_insert(0) += 1;
-    }
-
-    fn count(&self, property: &'static str, value: usize) -> usize {
-        self.counts.get(&(property, value)).copied().unwrap_or(0)
-    }
-
-    /// Those of the values that came up less often than this.
-    fn rare(
-        &self,
-        property: &'static str,
-        values: impl IntoIterator<Item = usize>,
-        least: usize,
-    ) -> Vec<(&'static str, usize)> {
-        let rare = |value: &usize| self.count(property, *value) < least;
-        let values = values.into_iter().filter(rare);
-        values.map(|value| (property, value)).collect()
     }
 
     /// What a run with the default number of rounds has to have had, and had not.
     fn lacking(&self) -> Vec<(&'static str, usize)> {
         let borders = [0, 1, 2, 15, 16, 17, 31, 32, 33, 47, 48, 49, 63, 64, 65];
         let longer = [127, 128, 129, 255, 256, 257, model::MAX_LIST];
+        let counts = &self.counts;
         [
             // Every kind of list with every kind of table.
-            self.rare("kind", 0..TABLES.len() * LISTS.len(), 1_000),
-            self.rare("table", 1..=model::MAX_TABLE, 1_000),
-            self.rare("list", borders.into_iter().chain(longer), 50),
-            self.rare("lying", 0..16, 10_000),
-            self.rare("by slots", [0, 1], FEWEST / 4),
+            counts.rare("kind", 0..TABLES.len() * LISTS.len(), 1_000),
+            counts.rare("table", 1..=model::MAX_TABLE, 1_000),
+            counts.rare("list", borders.into_iter().chain(longer), 50),
+            counts.rare("lying", 0..16, 10_000),
+            counts.rare("by slots", [0, 1], FEWEST / 4),
             // What a list costs where nothing is found: up to so many rounds, then passes.
-            self.rare("rounds", [1, 2, 3], 500),
+            counts.rare("rounds", [1, 2, 3], 500),
             // Each place of a table, and none.
-            self.rare("answer", 0..=model::MAX_TABLE, 200),
+            counts.rare("answer", 0..=model::MAX_TABLE, 200),
         ]
         .concat()
     }
@@ -110,11 +87,12 @@ fn searches_and_model_agree() {
     let searched: Searched = all_streams(lists, |searched, stream, lists| {
         one_stream(searched, seed, stream, lists, &clashing);
     });
-    let compared = searched.count("by slots", 0) + searched.count("by slots", 1);
+    let by_slots = searched.counts.count("by slots", 1);
+    let compared = by_slots + searched.counts.count("by slots", 0);
     say(&format!(
         "\n  {:>8}  lists searched, {} of them by slots\n{}\n",
         compared,
-        searched.count("by slots", 1),
+        by_slots,
         searched.seen.compared()
     ));
     if lists >= DEFAULT_ROUNDS {

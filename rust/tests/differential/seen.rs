@@ -4,15 +4,15 @@ use crate::Found;
 use quic_version::{Refusal, WriteRefusal};
 use std::collections::{BTreeMap, BTreeSet};
 
-/// Document 01's numbers, and document 02's 20.
-const NUMBERS: [u8; 34] = [
+/// Document 01's numbers, and document 02's 20 and 80 to 85.
+const NUMBERS: [u8; 40] = [
     11, 12, 13, 20, 21, 22, 23, 24, 25, 26, 31, 32, 33, 34, 35, 36, 37, 40, 41, 42, 43, 44, 45, 51,
-    61, 62, 63, 64, 65, 71, 72, 73, 74, 75,
+    61, 62, 63, 64, 65, 71, 72, 73, 74, 75, 80, 81, 82, 83, 84, 85,
 ];
 
-/// Every answer of the calls that choose from a list or a word, make a word or count: 0 and the
-/// refusals. All of them have to be seen, and no other.
-const ANSWERS: [(&str, &[u32]); 10] = [
+/// Every answer of the calls that choose from a list or a word, make a word or count, and of those
+/// of transport parameters: 0 and the refusals. All of them have to be seen, and no other.
+const ANSWERS: [(&str, &[u32]); 15] = [
     ("qv_choose", &[0, 40, 41, 42]),
     ("qv_choose_from_bytes", &[0, 40, 41, 42]),
     ("qv_list_word", &[0, 40, 41]),
@@ -23,6 +23,11 @@ const ANSWERS: [(&str, &[u32]); 10] = [
     ("qv_choose_by_word, joined lists", &[0, 40, 41, 42]),
     ("qv_count_held", &[0, 40, 41]),
     ("qv_count_held_from_bytes", &[0, 40, 41]),
+    ("qv_read_integer", &[0, 81]),
+    ("qv_write_integer", &[0, 83, 84]),
+    ("qv_read_parameters", &[0, 80, 81, 82, 85]),
+    ("qv_write_parameters", &[0, 80, 81, 82, 84, 85]),
+    ("qv_write_parameters, laws", &[0, 80, 81, 82, 85]),
 ];
 
 /// What was seen.
@@ -98,6 +103,40 @@ impl Seen {
             text += &format!("  {:>8}  {}\n", count, function);
         }
         text + &format!("  {:>8}  in all\n", self.cases())
+    }
+}
+
+/// How often a property of what was drawn had each value.
+#[derive(Default)]
+pub struct Counts(BTreeMap<(&'static str, usize), usize>);
+
+impl Found for Counts {
+    fn join(&mut self, other: Counts) {
+        for (property, count) in other.0 {
+            *self.0.entry(property).or_insert(0) += count;
+        }
+    }
+}
+
+impl Counts {
+    pub fn add(&mut self, property: &'static str, value: usize) {
+        *self.0.entry((property, value)).or_insert(0) += 1;
+    }
+
+    pub fn count(&self, property: &'static str, value: usize) -> usize {
+        self.0.get(&(property, value)).copied().unwrap_or(0)
+    }
+
+    /// Those of the values that came up less often than this.
+    pub fn rare(
+        &self,
+        property: &'static str,
+        values: impl IntoIterator<Item = usize>,
+        least: usize,
+    ) -> Vec<(&'static str, usize)> {
+        let rare = |value: &usize| self.count(property, *value) < least;
+        let values = values.into_iter().filter(rare);
+        values.map(|value| (property, value)).collect()
     }
 }
 

@@ -1,5 +1,5 @@
-//! A second reading of document 01, and of document 02 as far as it is there (C-13 to C-15), in
-//! plain Rust, to compare the library with.
+//! A second reading of document 01, and of document 02 as far as it is there (C-11, C-13 to C-15),
+//! in plain Rust, to compare the library with.
 //!
 //! It is written from the paper's sentences with sets, slices and iterators;
 //! speed is no aim. Refusals are the paper's numbers. Quoted comments are
@@ -10,12 +10,14 @@
 mod attempts;
 mod choices;
 mod completed;
+mod parameters;
 mod wire;
 mod words;
 
 pub use attempts::*;
 pub use choices::*;
 pub use completed::*;
+pub use parameters::*;
 pub use wire::*;
 pub use words::*;
 
@@ -41,12 +43,23 @@ pub const MIN_ANSWERED: usize = 1_200;
 /// "a number 0 to 127 for the unused bits"
 pub const MAX_UNUSED_BITS: u8 = 127;
 
+/// Document 02, C-11: "a sequence over 16,384 bytes is an 80"
+pub const MAX_SEQUENCE: usize = 16_384;
+/// Document 02, C-11: "At most 64 parameters, else 85"
+pub const MAX_PARAMETERS: usize = 64;
+/// Document 02, C-11: "83 an integer over 2^62 minus 1 to write"
+pub const MAX_INTEGER: u64 = 2_u64.pow(62) - 1;
+/// Document 02, C-11: "Our parameter has identifier 0x11."
+pub const VERSION_INFORMATION: u64 = 0x11;
+
 /// The close code of a refusal: 0x08 for 31 to 36, 0x11 for 51 and 71 to 75.
 /// "A writer's 33 to 36 close nothing"; no writer's refusal has a code.
+/// Document 02, C-11: "New numbers, here and later, join document 01's table
+/// without a close code, but this reader's have 0x08": 80, 81, 82 and 85.
 pub fn close_code(number: u32, writer: bool) -> Option<u64> {
     match number {
         _ if writer => None,
-        31..=36 => Some(0x08),
+        31..=36 | 80..=82 | 85 => Some(0x08),
         51 | 71..=75 => Some(0x11),
         _ => None,
     }

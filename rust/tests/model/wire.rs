@@ -23,7 +23,7 @@ fn written(versions: &[u32]) -> Vec<u8> {
 
 /// `bytes` in two parts, the first of `count` bytes; `None` when the field
 /// "runs past the end".
-fn cut(bytes: &[u8], count: usize) -> Option<(&[u8], &[u8])> {
+pub(super) fn cut(bytes: &[u8], count: usize) -> Option<(&[u8], &[u8])> {
     if count <= bytes.len() {
         Some(bytes.split_at(count))
     } else {

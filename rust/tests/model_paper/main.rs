@@ -5,6 +5,7 @@ mod attempts;
 mod choices;
 #[path = "../model/mod.rs"]
 mod model;
+mod parameters;
 #[path = "../random/mod.rs"]
 mod random;
 mod reach;
@@ -22,7 +23,7 @@ fn packet(destination: &[u8], source: &[u8], list: &[u32]) -> Vec<u8> {
 fn close_codes() {
     for number in 0..=1_000 {
         let code = match number {
-            31..=36 => Some(0x08),
+            31..=36 | 80 | 81 | 82 | 85 => Some(0x08),
             51 | 71 | 72 | 73 | 74 | 75 => Some(0x11),
             _ => None,
         };

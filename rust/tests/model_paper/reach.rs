@@ -1,5 +1,7 @@
 //! The seeded inputs: every answer comes up, and the same seed gives the same inputs.
 
+mod parameters;
+
 use crate::model::*;
 use crate::random::Random;
 use std::collections::BTreeMap;

@@ -10,13 +10,16 @@
 
 pub mod attempts;
 mod choices;
+pub mod hostile;
 mod packet;
+pub mod parameters;
 pub mod screening;
 pub mod slots;
 mod versions;
 mod wire;
 mod words;
 
+pub use packet::{bits_of, in_sequence, integer_in, least_width, Parameter, WIDTHS};
 pub use packet::{in_fours, information, long_packet};
 
 /// splitmix64: the same seed gives the same inputs on every machine.

@@ -3,12 +3,16 @@
 
 mod attempts;
 mod choices;
+mod parameters;
 mod versions;
 mod wire;
 mod words;
 
 pub use attempts::PlainAttempt;
 pub use choices::{choose, choose_from_bytes, server_choice};
+pub use parameters::{
+    find_version_information, read_integer, step_over, write_integer, write_version_information,
+};
 pub use versions::{are_pairs, is_reserved, is_table};
 pub use wire::{read_header, read_information, write_information, write_version_negotiation};
 pub use words::{

@@ -4,6 +4,7 @@
 mod attempts;
 mod choices;
 mod damaged;
+mod parameters;
 mod paste;
 mod screening;
 mod wire;
@@ -12,6 +13,7 @@ mod words;
 pub use attempts::*;
 pub use choices::*;
 pub use damaged::*;
+pub use parameters::*;
 pub use paste::Paste;
 pub use screening::*;
 pub use wire::*;
@@ -35,6 +37,18 @@ fn same<T: PartialEq + std::fmt::Debug>(what: &str, library: T, model: T) -> Res
             what, library, model
         ))
     }
+}
+
+/// As `same`, of bytes that may be many: the first place where they differ, and what follows.
+fn same_bytes(what: &str, library: &[u8], model: &[u8]) -> Result<(), String> {
+    if library == model {
+        return Ok(());
+    }
+    let alike = library.iter().zip(model).take_while(|(l, m)| l == m);
+    let place = alike.count();
+    let from = |bytes: &[u8]| bytes.iter().skip(place).take(24).copied().collect();
+    let (library, model): (Vec<u8>, Vec<u8>) = (from(library), from(model));
+    same(&format!("{} from byte {} on", what, place), library, model)
 }
 
 /// An answer of the crate's own interface with its refusal as a number.

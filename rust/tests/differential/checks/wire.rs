@@ -1,6 +1,6 @@
 //! Readers and writers: headers, Version Negotiation packets and Version Information.
 
-use super::{number, plain, same, Compared, FOUND};
+use super::{number, plain, same, same_bytes, Compared, FOUND};
 use crate::model::{self, Header};
 use crate::raw;
 use quic_version::{self as library, Sender, WriteRefusal};
@@ -77,7 +77,7 @@ const GUARD: usize = 16;
 
 /// A writer's calls on a buffer of `room` bytes: answer, count, and every byte of the buffer and
 /// past it.
-fn check_writer(
+pub(super) fn check_writer(
     room: usize,
     model: &Result<Vec<u8>, u8>,
     write: &dyn Fn(&mut [u8], &mut usize) -> u32,
@@ -95,20 +95,26 @@ fn check_writer(
         let answer = write(&mut buffer[..room], &mut count);
         same("answer", answer, number(model))?;
         same("count", count, counted)?;
-        same("buffer", &buffer[..], &left[..])?;
+        same_bytes("buffer", &buffer, &left)?;
     }
     Ok(())
 }
 
-/// The same writer of the crate's own interface: answer and count.
-fn check_own_writer(
+/// The same writer of the crate's own interface: answer, count and every byte of the buffer.
+pub(super) fn check_own_writer(
     room: usize,
     model: &Result<Vec<u8>, u8>,
     write: &dyn Fn(&mut [u8]) -> Result<usize, WriteRefusal>,
 ) -> Result<(), String> {
     let counted = model.as_ref().map(Vec::len).map_err(|no| *no);
-    let answer = write(&mut vec![0x77; room]).map_err(WriteRefusal::number);
-    same("answer of the crate", answer, counted)
+    let mut buffer = vec![0x77; room];
+    let answer = write(&mut buffer).map_err(WriteRefusal::number);
+    same("answer of the crate", answer, counted)?;
+    let mut left = vec![0x77; room];
+    if let Ok(bytes) = model {
+        left[..bytes.len()].copy_from_slice(bytes);
+    }
+    same_bytes("buffer of the crate", &buffer, &left)
 }
 
 pub fn check_write_version_negotiation(

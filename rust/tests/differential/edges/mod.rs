@@ -2,9 +2,11 @@
 
 use crate::checks::*;
 use crate::model::{self, Event};
+use quic_version::transport_parameters;
 
 mod attempts;
 mod choices;
+mod parameters;
 mod screening;
 mod tables;
 mod wire;
@@ -28,6 +30,11 @@ fn limits() {
     assert_eq!(quic_version::MAX_UNUSED_BITS, model::MAX_UNUSED_BITS);
     assert_eq!(quic_version::MAX_INFORMATION, model::MAX_INFORMATION);
     assert_eq!(quic_version::MAX_AVAILABLE, model::MAX_AVAILABLE);
+    assert_eq!(transport_parameters::MAX_SEQUENCE, model::MAX_SEQUENCE);
+    assert_eq!(transport_parameters::MAX_PARAMETERS, model::MAX_PARAMETERS);
+    assert_eq!(transport_parameters::MAX_INTEGER, model::MAX_INTEGER);
+    let ours = transport_parameters::VERSION_INFORMATION;
+    assert_eq!(ours, model::VERSION_INFORMATION);
 }
 
 #[test]
@@ -48,6 +55,10 @@ fn empty_inputs() {
     check_write_version_negotiation(&[], &[], 0, 0).unwrap();
     check_read_information(0, &[]).unwrap();
     check_write_information(1, 1, &[], 0).unwrap();
+    check_read_integer(&[]).unwrap();
+    check_write_integer(0, 0).unwrap();
+    check_read_parameters(&[]).unwrap();
+    check_write_parameters(&[], &[], 0).unwrap();
     check_entry(&[], 0).unwrap();
     check_is_table(&[]).unwrap();
     check_are_pairs(&[]).unwrap();

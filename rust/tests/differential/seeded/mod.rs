@@ -5,7 +5,7 @@ use crate::seen::Seen;
 
 /// One comparison. A difference is printed as a call that can be pasted.
 macro_rules! compare {
-    ($seen:ident, $stream:ident, $function:literal, $check:ident($($input:expr),*)) => {
+    ($seen:ident, $stream:ident, $function:expr, $check:ident($($input:expr),*)) => {
         match $check($($input),*) {
             Ok(number) => $seen.note($function, number),
             Err(difference) => panic!(
@@ -22,6 +22,7 @@ macro_rules! compare {
 
 mod attempts;
 mod choices;
+pub mod parameters;
 pub mod screening;
 mod wire;
 mod words;
@@ -34,5 +35,6 @@ pub fn one_stream(seen: &mut Seen, seed: u64, stream: usize, rounds: usize) {
         choices::calls(seen, random, stream);
         words::calls(seen, random, stream);
         attempts::calls(seen, random, stream);
+        parameters::calls(seen, random, stream);
     }
 }

@@ -1,4 +1,7 @@
+-- `or_here`: by the cases of what was found so far.
+use mathlib.Core.Path.{refl}
 use borrow.Author.Needs.{needs}
+use borrow.Author.Tests.{eq-eqb, ne-eqb}
 use Rattle.parameters_reader.proofs.walk.or_here.Statement.{statement}
 use Rattle.parameters_reader.proofs.walk.or_here.Tie as tie
 
@@ -12,16 +15,16 @@ enum-told : tie.Need-enum-told
 enum-told c = search needs
 
 returns : tie.Need-returns
-returns c = ?
+returns c = rw (c .before .enum-told .given .1, eq-eqb _ _ (c .if1 .taken)) refl
 
 returns-2 : tie.Need-returns-2
-returns-2 c = ?
+returns-2 c = rw (c .before .carried .given .1) refl
 
 returns-3 : tie.Need-returns-3
-returns-3 c = ?
+returns-3 c = rw (c .before .carried2 .given .1) refl
 
 returns-4 : tie.Need-returns-4
-returns-4 c = ?
+returns-4 c = rw (c .before .enum-told .given .1, ne-eqb _ _ (c .if1 .left)) refl
 
 pub or-here-spec : {M : Type 1} → statement M
 or-here-spec =
