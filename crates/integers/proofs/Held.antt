@@ -1,23 +1,21 @@
 -- What is read is an integer that can be written: bytes that are read are the bytes of what is read, in the form that they
 -- tell, and that form holds it. The converse of `read-back`.
-use Prim.Native.Nat.{ℕ, zero, suc, _+_, _-_, _*_, _/_, _%_, _^_, _<_, _≤_}
-use mathlib.Core.Bool.{Bool, true, false}
+use Prim.Native.Nat.{ℕ, suc, _+_, _-_, _*_, _/_, _%_, _^_, _<_, _≤_}
+use mathlib.Core.Bool.{true}
 use mathlib.Core.List.{List, [], _∷_, _++_}
 use mathlib.Core.Path.{_≡_, refl, sym, ap, _∙_, subst}
-use native.Mathlib.Nat.{pow-suc, div-div-eq-div-mul, div-one, div-lt-iff-lt-mul, lt-irrefl}
+use native.Mathlib.Nat.{pow-suc, div-div-eq-div-mul, div-one, div-lt-iff-lt-mul}
 use native.Mathlib.Omega.{arith}
 use borrow.Author.Tests.{ltb-false, not-true}
 use lib.ListN.{length, take, drop, take-append-drop}
 use lib.Pow.{pow-lt}
 use lib.Seq.{length-take-le}
-use Rattle.refusals.specs.Reply.{Reply.answered, refuse}
-use Rattle.refusals.specs.Rule.{Rule, judged, clear}
-use Rattle.refusals.specs.declared.Call.{Call}
+use Rattle.refusals.specs.Reply.{Reply.answered}
 use Rattle.refusals.specs.declared.Call.the-variants.{Reading}
-use Rattle.refusals.proofs.Rules.{answered-clear, answered-injective, both-true, lowest-clear}
+use Rattle.refusals.proofs.Rules.{answer-given, both-true}
 use Rattle.lists.specs.Wire.{allBelow}
 use Rattle.lists.proofs.Entries.{allBelow-head, allBelow-take}
-use Rattle.integers.specs.Integers.{Found, fromBytes, valueAt, readInteger, integerRules, lowBytes, integerBytes, widthAt, widthOf, heldBelow}
+use Rattle.integers.specs.Integers.{Found, fromBytes, valueAt, readInteger, integerRules, lowBytes, integerBytes, widthOf, heldBelow}
 use Rattle.integers.specs.Integers.{shortest, shortestWidth, shortestBytes}
 use Rattle.integers.specs.Limits.{maxInteger}
 use Rattle.integers.proofs.RoundTrip.{bound-top, one-le-width, pos-256, read-within, width-top}
@@ -54,29 +52,26 @@ pub record Told (bytes : List ℕ) (f : Found) : Type 0 where
   pub most : f .value ≤ maxInteger
   pub front : bytes ≡ integerBytes form (f .value) ++ drop (f .width) bytes
 
--- An answer comes where no rule applies, and is the one that was to be given
-pub answer-given : {A : Type 0} (call : Call) (rules : List Rule) (x y : A) → judged call rules (answered x) ≡ answered y
-    → (clear rules ≡ true) × (x ≡ y)
-answer-given call rules x y e =
-    let none = answered-clear call x y rules (sym e) in
-    (none, answered-injective x y (sym (lowest-clear (refuse call) (answered x) rules none) ∙ e))
-
+-- What one of the four forms holds is not over the limit
 held-top : (form v : ℕ) → form < 4 → v < heldBelow form → v ≤ maxInteger
 unfolding heldBelow
 held-top form v h k = let top = bound-top (widthOf form) (width-top form h) in omega (arith, top)
 
 -- The byte that tells the form, and the bytes behind it
 module _ (b : ℕ) (bs : List ℕ) (small : b < 256) (below : allBelow 256 bs ≡ true) (n : ℕ) (long : n ≡ length bs) where
+  -- no more than 6 bits are above those bytes
   front-held : fromBytes (b % 64) bs < 64 * 256 ^ n
   front-held =
       let top : fromBytes (b % 64) bs / 256 ^ n ≡ b % 64 = rw long (high-back (b % 64) bs below) in
       div-lt-iff-lt-mul (pos-256 n) .0 (rw top (omega arith))
 
+  -- and both are what the writer makes of the number
   front-same : (b / 64 * 64 + fromBytes (b % 64) bs / 256 ^ n) ∷ lowBytes n (fromBytes (b % 64) bs) ≡ b ∷ bs
   front-same =
       let whole : b / 64 * 64 + b % 64 ≡ b = omega arith in
       rw (long, high-back (b % 64) bs below, low-back (b % 64) bs below, whole) refl
 
+-- What the reader makes of bytes that are long enough
 told-front : (b : ℕ) (rest : List ℕ) → allBelow 256 (b ∷ rest) ≡ true → widthOf (b / 64) ≤ suc (length rest)
     → Told (b ∷ rest) (record { value = valueAt (b ∷ rest) (widthOf (b / 64)); width = widthOf (b / 64) })
 unfolding valueAt heldBelow integerBytes
@@ -108,7 +103,8 @@ pub read-told : (bytes : List ℕ) (f : Found) → allBelow 256 bytes ≡ true �
 unfolding readInteger
 read-told [] f below e = absurd (omega (arith, read-within [] f e))
 read-told (b ∷ rest) f below e =
-    let p = answer-given Reading (integerRules (b ∷ rest)) (record { value = valueAt (b ∷ rest) (widthOf (b / 64)); width = widthOf (b / 64) }) f e in
+    let found : Found = record { value = valueAt (b ∷ rest) (widthOf (b / 64)); width = widthOf (b / 64) } in
+    let p = answer-given Reading (integerRules (b ∷ rest)) found f e in
     subst (Told (b ∷ rest)) (p .1) (told-front b rest below (ltb-false _ _ (not-true _ (both-true _ _ (p .0) .0))))
 
 -- What is read was not written in fewer bytes than the shortest form takes

@@ -1,3 +1,6 @@
 pub mod Held
+pub mod Injective
 pub mod Least
+pub mod Rising
 pub mod RoundTrip
+pub mod Worked

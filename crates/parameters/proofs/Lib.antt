@@ -1,3 +1,12 @@
 pub mod Bytes
+pub mod Carrying
+pub mod Contents
+pub mod Fields
+pub mod Injective
+pub mod Kept
 pub mod Places
+pub mod Rewritten
+pub mod Rising
 pub mod Walk
+pub mod Worked
+pub mod Written

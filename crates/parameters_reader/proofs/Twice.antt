@@ -1,45 +1,26 @@
 -- A number that occurs twice, in lists that grow at their end and in lists that are taken apart by size.
-use Prim.Native.Nat.{ℕ, zero, suc, _<_, _≤_}
-use mathlib.Core.Bool.{Bool, true, false, cond, _||_, or-true, false≢true}
+use Prim.Native.Nat.{ℕ, _<_, _≤_}
+use mathlib.Core.Bool.{Bool, true, false, cond, _||_, or-false}
 use mathlib.Core.List.{List, [], _∷_, _++_}
-use mathlib.Core.Path.{_≡_, refl, sym, ap, ap₂, _∙_}
+use mathlib.Core.Path.{_≡_, refl, ap, _∙_}
 use native.Mathlib.Omega.{arith}
-use borrow.Author.Tests.{eq-eqb, eqb-false, eqb-true, le-ltb, lt-ltb, ltb-false, ltb-true, ne-eqb}
+use borrow.Author.Tests.{le-ltb, lt-ltb, ltb-false, ltb-true, ne-eqb}
 use lib.Dec.{eqb, ltb}
 use Rattle.versions.specs.Table.{elem}
-use Rattle.versions.proofs.Lists.{elem-append}
 use Rattle.parameters.specs.Sequence.{repeats}
 use Rattle.parameters_reader.specs.Sizes.{below, fromOn}
-
-eqb-turned : (a b : ℕ) → eqb a b ≡ eqb b a
-eqb-turned a b = go (eqb a b) refl
-  where
-    go : (t : Bool) → eqb a b ≡ t → eqb a b ≡ eqb b a
-    go true e = e ∙ sym (eq-eqb b a (sym (eqb-true a b e)))
-    go false e = e ∙ sym (ne-eqb b a (λ z. eqb-false a b e (sym z)))
+use Rattle.parameters_reader.specs.Sorting.{meets}
+use Rattle.parameters_reader.proofs.Common.{meets-swap, repeats-append}
 
 -- One more number
 pub repeats-snoc : (xs : List ℕ) (x : ℕ) → repeats (xs ++ (x ∷ [])) ≡ (repeats xs || elem x xs)
-unfolding repeats elem
-repeats-snoc [] x = refl
-repeats-snoc (y ∷ xs) x =
-    rw (elem-append y xs (x ∷ []), repeats-snoc xs x, eqb-turned x y) (go (elem y xs) (eqb y x) (repeats xs) (elem x xs))
-  where
-    go : (a b r e : Bool) → ((a || (b || false)) || (r || e)) ≡ ((a || r) || (b || e))
-    go true b r e = refl
-    go false true r e = sym (or-true r)
-    go false false r e = refl
+unfolding repeats elem meets
+repeats-snoc xs x =
+    repeats-append xs (x ∷ []) ∙ ap (λ (b : Bool). repeats xs || b) (meets-swap xs (x ∷ []) ∙ or-false (elem x xs))
 
 -- What occurs twice in a part does so in the whole
 pub repeats-front : (xs ys : List ℕ) → repeats xs ≡ true → repeats (xs ++ ys) ≡ true
-unfolding repeats
-repeats-front [] ys h = absurd (false≢true h)
-repeats-front (x ∷ xs) ys h =
-    rw (elem-append x xs ys) (go (elem x xs) (elem x ys) (repeats xs) (repeats (xs ++ ys)) h (repeats-front xs ys))
-  where
-    go : (a b r w : Bool) → (a || r) ≡ true → (r ≡ true → w ≡ true) → ((a || b) || w) ≡ true
-    go true b r w h k = refl
-    go false b r w h k = rw (k h) (or-true b)
+repeats-front xs ys h = rw (repeats-append xs ys, h) refl
 
 -- The small numbers and the large ones, by the size of one
 module _ (n : ℕ) where

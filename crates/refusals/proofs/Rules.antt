@@ -6,7 +6,7 @@ use mathlib.Core.Path.{_≡_, refl, sym, _∙_, ap}
 use native.Mathlib.Omega.{arith}
 use Rattle.refusals.specs.Reply.{Reply.answered, refuse}
 use Rattle.refusals.specs.declared.Call.{Call}
-use Rattle.refusals.specs.Rule.{Rule, Rule._when_, lowest, clear}
+use Rattle.refusals.specs.Rule.{Rule, Rule._when_, lowest, judged, clear}
 
 pub both-true : (a b : Bool) → (a && b) ≡ true → (a ≡ true) × (b ≡ true)
 both-true true b e = (refl, e)
@@ -62,3 +62,10 @@ pub answered-clear : {A : Type 0} (call : Call) (a b : A) (rs : List Rule) →
 answered-clear call a b [] e = refl
 answered-clear call a b ((m when true) ∷ rs) e = absurd (refused-not-answered m call b (sym e))
 answered-clear call a b ((m when false) ∷ rs) e = answered-clear call a b rs e
+
+-- An answer comes where no rule applies, and is the one that was to be given
+pub answer-given : {A : Type 0} (call : Call) (rules : List Rule) (x y : A) → judged call rules (answered x) ≡ answered y
+    → (clear rules ≡ true) × (x ≡ y)
+answer-given call rules x y e =
+    let none = answered-clear call x y rules (sym e) in
+    (none, answered-injective x y (sym (lowest-clear (refuse call) (answered x) rules none) ∙ e))

@@ -112,7 +112,7 @@ marked-set f v (t ∷ ts) h =
 
 -- The word from pairs, pair by pair from the pairs' end
 
-equal-turned : (a b : ℕ) → eqb a b ≡ eqb b a
+pub equal-turned : (a b : ℕ) → eqb a b ≡ eqb b a
 equal-turned a b = go (eqb b a) refl
   where
     go : (r : Bool) → eqb b a ≡ r → eqb a b ≡ r
