@@ -5,9 +5,9 @@ use Rattle.versions.specs.Limits.{maxTable}
 use Rattle.attempt.specs.Limits.{maxID}
 use Rattle.c_record.specs.declared.Record.{Record}
 
--- The name of `qv_interface_5` has this number too
+-- The name of `qv_interface_6` has this number too
 abbrev pub interfaceVersion : ℕ
-interfaceVersion = 5
+interfaceVersion = 6
 
 -- The size of the record in bytes: a row and a version for each place of the table, two connection IDs, ten numbers. No
 -- padding, which C and Rust check

@@ -3,6 +3,8 @@ ghost use mathlib.Core.Bool.{false};
 ghost use mathlib.Core.Path.{_≡_};
 ghost use Prim.Native.Nat.{_≤_, _<_};
 ghost use lib.ListN.{length};
+ghost use Rattle.refusals.specs.Reply.{refuse};
+ghost use Rattle.refusals.specs.declared.Call.the-variants.{Reading};
 ghost use Rattle.parameters.specs.Limits.{maxSequence, maxParameters};
 ghost use Rattle.parameters.specs.Reading.{carriedReply, fieldsIn, readParameters, runsPast};
 ghost use Rattle.parameters.specs.Sequence.{fieldsOf};
@@ -34,7 +36,7 @@ pub fn read_parameters(sequence: &[u8]) -> Carried
         Walked::RunsPast => Carried::Refused(Refusal::RUNS_PAST_THE_END),
         Walked::Through { count, carried } => {
             if MAX_PARAMETERS < count {
-                return refuse_many(sequence);
+                return Carried::Refused(refusal_of_many(sequence));
             }
             if few_repeat(&ids[..count]) {
                 return Carried::Refused(Refusal::IDENTIFIER_REPEATED);
@@ -45,14 +47,14 @@ pub fn read_parameters(sequence: &[u8]) -> Carried
 }
 
 // The refusal of a sequence with too many parameters: 82 comes before 85.
-fn refuse_many(sequence: &[u8]) -> Carried
+fn refusal_of_many(sequence: &[u8]) -> Refusal
     requires short { ⌜ length (now sequence) ≤ maxSequence ⌝ }
     requires read { ⌜ runsPast (fieldsOf (now sequence)) ≡ false ⌝ }
     requires many { ⌜ maxParameters < length (fieldsIn (fieldsOf (now sequence))) ⌝ }
-    ensures { λ r. ⌜ carriedReply r ≡ readParameters (now (sequence .entry)) ⌝ }
+    ensures { λ r. ⌜ refuse Reading (r .0) ≡ readParameters (now (sequence .entry)) ⌝ }
 {
     if many_repeat(sequence) {
-        return Carried::Refused(Refusal::IDENTIFIER_REPEATED);
+        return Refusal::IDENTIFIER_REPEATED;
     }
-    Carried::Refused(Refusal::TOO_MANY_PARAMETERS)
+    Refusal::TOO_MANY_PARAMETERS
 }

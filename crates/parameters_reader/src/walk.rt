@@ -52,14 +52,12 @@ fn note(ids: &mut [u64], place: usize, id: u64)
 fn or_here(carried: Carried, id: u64, value: Span) -> Carried
     ensures { λ r. ⌜ carriedReply r ≡ orHere (carriedReply carried) id value ⌝ }
 {
+    if id != VERSION_INFORMATION {
+        return carried;
+    }
     match carried {
         Carried::Refused(refusal) => Carried::Refused(refusal),
         Carried::At(place) => Carried::At(place),
-        Carried::Missing => {
-            if id == VERSION_INFORMATION {
-                return Carried::At(value);
-            }
-            Carried::Missing
-        }
+        Carried::Missing => Carried::At(value),
     }
 }

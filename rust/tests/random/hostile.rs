@@ -99,12 +99,23 @@ impl Random {
             self.put_ours(&mut parameters);
         }
         if let Some((one, other)) = self.hostile_repeat(repeats, parameters.len()) {
-            copy_identifier(&mut parameters, one, other);
+            let (from, to) = if self.one_in(2) {
+                (one, other)
+            } else {
+                (other, one)
+            };
+            if orders == Orders::FewLarge && self.one_in(2) {
+                let largest = place_of_largest(&parameters);
+                parameters.swap(largest, from);
+            }
+            copy_identifier(&mut parameters, from, to);
         }
         if repeats == Repeats::All {
-            let least = parameters.iter().map(|p| p.identifier).min().unwrap_or(0);
+            // That of the least width, which all others hold.
+            let identifier = parameters.iter().min_by_key(|p| p.widths.0);
+            let identifier = identifier.map_or(0, |p| p.identifier);
             for parameter in &mut parameters {
-                parameter.identifier = least;
+                parameter.identifier = identifier;
             }
         }
         let mut sequence = in_sequence(&parameters);
@@ -279,14 +290,21 @@ impl Random {
     }
 }
 
-/// The identifier of one of these places in the other too: of the two the one that both widths
-/// hold.
+/// The identifier of one place in the other too; or the other's in the one, whose width holds it,
+/// where the other's does not.
 fn copy_identifier(parameters: &mut [Parameter], one: usize, other: usize) {
-    let identifier = parameters[one].identifier.min(parameters[other].identifier);
-    for place in [one, other] {
-        debug_assert!(least_width(identifier) <= parameters[place].widths.0);
-        parameters[place].identifier = identifier;
+    let identifier = parameters[one].identifier;
+    if least_width(identifier) <= parameters[other].widths.0 {
+        parameters[other].identifier = identifier;
+    } else {
+        parameters[one].identifier = parameters[other].identifier;
     }
+}
+
+fn place_of_largest(parameters: &[Parameter]) -> usize {
+    let places = 0..parameters.len();
+    let largest = places.max_by_key(|place| parameters[*place].identifier);
+    largest.unwrap_or(0)
 }
 
 /// The first, the last, the second, the last but one and so on.

@@ -64,10 +64,6 @@ impl Parameter {
             value,
         }
     }
-
-    pub fn is_shortest(&self) -> bool {
-        *self == Parameter::shortest(self.identifier, self.value.clone())
-    }
 }
 
 /// A sequence of transport parameters.

@@ -312,8 +312,8 @@ impl Random {
         bytes
     }
 
-    /// A parameter whose value has fewer bytes than its length tells: by one, or by so many that
-    /// the end of the value is past what an integer of the machine holds, or a half of it.
+    /// A parameter whose value has fewer bytes than its length tells: by one to three, by about a
+    /// power of two, or by nearly as many as a length can tell.
     fn past_the_end(&mut self) -> Vec<u8> {
         let value = self.parameter_value();
         let shorter = value.len() as u64;
@@ -352,7 +352,7 @@ impl Random {
 // Whole calls of the writer.
 
 impl Random {
-    /// Two of three old sequences can be read.
+    /// About two of three old sequences can be read.
     pub fn parameters_call(&mut self) -> ParametersCall {
         let old = match self.below(2) {
             0 => {

@@ -44,8 +44,8 @@ through-it k =
     let call = k .before .before .before .walk in
     told-through _ _ _ _ (sym (ap walkedAs (k .count .given .1)) ∙ call .ensures .0) (call .ensures .1)
 
-refuse-many-requires : tie.Need-refuse-many-requires
-refuse-many-requires c κs =
+refusal-of-many-requires : tie.Need-refusal-of-many-requires
+refusal-of-many-requires c κs =
     let k = c .before .before in
     let told = through-it k in
     (short (k .before .before .before), (told .read, subst (λ (n : ℕ). maxParameters < n) (told .counts) (c .if2 .taken)))
@@ -106,7 +106,7 @@ read-parameters-spec =
     walk-requires
     enum-told
     enum-known-count
-    refuse-many-requires
+    refusal-of-many-requires
     returns-2
     array-share-prefix-ids
     slice-aggregate-few-repeat

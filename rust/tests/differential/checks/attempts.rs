@@ -1,7 +1,7 @@
 //! Starts and events: the answer, the whole record and the own list after each.
 
 use super::damaged::check_no_record;
-use super::{number, paired, plain, same, Compared, FOUND};
+use super::{number, paired, plain, same, Compared, Lent, FOUND};
 use crate::model::{self, Event, MAX_TABLE};
 use crate::raw::{self, Record};
 use quic_version::{Attempt, End, Refusal};
@@ -53,7 +53,7 @@ fn blank() -> Record {
 /// The own list of a record; places past its count are left as found.
 pub(super) fn check_own_list(record: &Record, own: &[u32]) -> Result<(), String> {
     for found in FOUND {
-        let (mut versions, mut count) = ([found; MAX_TABLE], found as usize);
+        let (mut versions, mut count) = ([found; MAX_TABLE], usize::found(found));
         let mut left = versions;
         left[..own.len()].copy_from_slice(own);
         same(

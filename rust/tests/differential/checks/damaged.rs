@@ -2,7 +2,7 @@
 //! an event does to any record value.
 
 use super::attempts::{check_own_list, raw_event};
-use super::{paired, same, Compared, FOUND};
+use super::{paired, same, Compared, Lent, FOUND};
 use crate::model::{Event, MAX_ID, MAX_TABLE};
 use crate::raw::{self, Record};
 
@@ -92,7 +92,7 @@ fn check_not_valid(found: Record, kind: u32) -> Result<(), String> {
 /// 255 from the own list, and the lent places are left as found.
 fn check_no_own_list(record: &Record) -> Result<(), String> {
     for found in FOUND {
-        let (mut versions, mut count) = ([found; MAX_TABLE], found as usize);
+        let (mut versions, mut count) = ([found; MAX_TABLE], usize::found(found));
         same(
             "own list's answer",
             raw::own_list(record, &mut versions, &mut count),
@@ -101,7 +101,7 @@ fn check_no_own_list(record: &Record) -> Result<(), String> {
         same(
             "own list",
             (versions, count),
-            ([found; MAX_TABLE], found as usize),
+            ([found; MAX_TABLE], usize::found(found)),
         )?;
     }
     Ok(())

@@ -1,6 +1,6 @@
 //! Readers and writers: headers, Version Negotiation packets and Version Information.
 
-use super::{number, plain, same, same_bytes, Compared, FOUND};
+use super::{number, plain, same, same_bytes, Compared, Lent, FOUND};
 use crate::model::{self, Header};
 use crate::raw;
 use quic_version::{self as library, Sender, WriteRefusal};
@@ -59,7 +59,7 @@ fn slices_of<'a>(datagram: &'a [u8], header: &Header) -> library::Header<'a> {
 pub fn check_read_header(datagram: &[u8], told: usize) -> Compared {
     let model = model::read_header(datagram, told);
     for found in FOUND {
-        let before = (found, found, [found as usize; 6]);
+        let before = (found, found, [usize::found(found); 6]);
         let (mut form, mut version, mut places) = before;
         let answer = raw::read_header(datagram, told, &mut form, &mut version, &mut places);
         let left = model.as_ref().map_or(before, places_of);
@@ -87,7 +87,7 @@ pub(super) fn check_writer(
             .map(|place| (place as u8).wrapping_mul(31) ^ found as u8)
             .collect();
         let mut left = buffer.clone();
-        let (mut count, mut counted) = (found as usize, found as usize);
+        let (mut count, mut counted) = (usize::found(found), usize::found(found));
         if let Ok(bytes) = model {
             left[..bytes.len()].copy_from_slice(bytes);
             counted = bytes.len();
@@ -150,11 +150,12 @@ pub fn check_read_information(sender: u32, bytes: &[u8]) -> Compared {
         None => Err(255),
     };
     for found in FOUND {
-        let (mut chosen, mut start, mut end) = (found, found as usize, found as usize);
+        let before = (found, usize::found(found), usize::found(found));
+        let (mut chosen, mut start, mut end) = before;
         let answer = raw::read_information(sender, bytes, &mut chosen, &mut start, &mut end);
         let left = match &model {
             Ok((chosen, list)) => (*chosen, list.start, list.end),
-            Err(_) => (found, found as usize, found as usize),
+            Err(_) => before,
         };
         same("answer", answer, number(&model))?;
         same("chosen, start, end", (chosen, start, end), left)?;

@@ -6,6 +6,8 @@ use quic_version::transport_parameters;
 
 mod attempts;
 mod choices;
+mod hostile;
+mod integers;
 mod parameters;
 mod screening;
 mod tables;

@@ -1,17 +1,11 @@
-//! Every width of variable-length integers, and sequences of transport parameters (C-11): every
-//! number of parameters, every cut, repeats at any two places, and lengths about the limits.
+//! Sequences of transport parameters (C-11): every number of them, every cut, repeats at any two
+//! places, and lengths about the limits.
 
+use super::integers::about_powers;
 use crate::checks::*;
 use crate::model::{MAX_INTEGER, MAX_PARAMETERS, MAX_SEQUENCE, VERSION_INFORMATION};
 use crate::random::parameters::new_length;
-use crate::random::{bits_of, in_sequence, integer_in, least_width, Parameter, WIDTHS};
-use quic_version::transport_parameters as library;
-
-/// The numbers about each power of two, and the largest.
-fn about_powers() -> Vec<u64> {
-    let about = |k: u32| [(1 << k) - 1, 1 << k, (1 << k) + 1];
-    (0..64).flat_map(about).chain([u64::MAX]).collect()
-}
+use crate::random::{in_sequence, integer_in, least_width, Parameter, WIDTHS};
 
 /// Parameters with these identifiers, and values of 0 to 3 bytes.
 fn numbered(identifiers: impl IntoIterator<Item = u64>) -> Vec<Parameter> {
@@ -34,70 +28,12 @@ fn ours(value: &[u8]) -> Parameter {
 /// Both calls, and the laws. The number that the reader gives has to be this one, and the writer
 /// gives it too if it is a refusal.
 #[track_caller]
-fn check_sequence(sequence: &[u8], number: u32) {
+pub(super) fn check_sequence(sequence: &[u8], number: u32) {
     assert_eq!(check_read_parameters(sequence).unwrap(), number);
     let written = check_write_parameters(sequence, &[7; 5], MAX_SEQUENCE).unwrap();
     assert!(number == 0 || written == number, "{}", written);
     check_laws(sequence, &[7; 5]).unwrap();
 }
-
-// Integers.
-
-#[test]
-fn every_first_byte_of_an_integer() {
-    for first in 0..=u8::MAX {
-        for following in [0, 1, 0x5a, 0x7f, 0x80, 0xff] {
-            let bytes = [&[first][..], &[following; 9]].concat();
-            for length in 0..=bytes.len() {
-                check_read_integer(&bytes[..length]).unwrap();
-            }
-        }
-    }
-}
-
-#[test]
-fn every_integer_of_two_bytes() {
-    for number in 0..=u16::MAX {
-        check_read_integer(&number.to_be_bytes()).unwrap();
-    }
-}
-
-/// What is written in any width that holds it is read back with that width, whatever follows.
-#[test]
-fn integers_in_every_width_that_holds_them() {
-    for value in about_powers() {
-        let holds = |width: &usize| value >> bits_of(*width) == 0;
-        for width in WIDTHS.into_iter().filter(holds) {
-            for following in [&[][..], &[0], &[0xff; 9]] {
-                let bytes = [&integer_in(value, width), following].concat();
-                check_read_integer(&bytes).unwrap();
-                let read = library::Integer { value, width };
-                assert_eq!(library::read_integer(&bytes), Ok(read));
-            }
-        }
-    }
-}
-
-/// In buffers of every length: written in the least width, and read back.
-#[test]
-fn integers_about_each_power_of_two() {
-    for value in (0..70_000).step_by(7).chain(about_powers()) {
-        for room in 0..=9 {
-            check_write_integer(value, room).unwrap();
-        }
-        let mut buffer = [0; 8];
-        match library::write_integer(value, &mut buffer) {
-            Ok(width) => {
-                assert_eq!(width, least_width(value));
-                let read = library::Integer { value, width };
-                assert_eq!(library::read_integer(&buffer), Ok(read));
-            }
-            Err(refusal) => assert_eq!((refusal.number(), value > MAX_INTEGER), (83, true)),
-        }
-    }
-}
-
-// Sequences.
 
 /// Every number of parameters up to 70, with ours missing and at each place. With 64 others ours is
 /// one too many.
@@ -225,7 +161,7 @@ fn identifiers_one_bit_apart() {
 }
 
 /// A value's length told as any number about a power of two, with no value there, or with one byte
-/// too few: 81, however many parameters are before it, and though their end is past all numbers.
+/// too few: 81, however many parameters are before it.
 #[test]
 fn lengths_past_the_end() {
     for length in about_powers().into_iter().filter(|n| *n <= MAX_INTEGER) {
@@ -384,6 +320,8 @@ fn every_length_of_our_value() {
     }
 }
 
+/// Every length of the buffer, from none to more than it takes. A 65th parameter is an 85 only where
+/// there is room for it.
 #[test]
 fn every_length_of_the_buffer_for_parameters() {
     for (count, had) in [
@@ -404,7 +342,6 @@ fn every_length_of_the_buffer_for_parameters() {
         for room in 0..=need + 20 {
             let number = match () {
                 _ if room < need => 84,
-                // "85 before 84" is a slip.
                 _ if count == MAX_PARAMETERS => 85,
                 _ => 0,
             };
@@ -418,40 +355,5 @@ fn every_length_of_the_buffer_for_parameters() {
             check_write_parameters(&old, &[6; MAX_SEQUENCE], room),
             Ok(80)
         );
-    }
-}
-
-/// The largest sequences of parameters of 3, 5 and 9 bytes, with no repeat, and with one at the first
-/// two places, the last two, both ends, and some pairs between; then with a byte too few and too many.
-#[test]
-fn largest_sequences() {
-    for width in [2, 4, 8] {
-        let count = MAX_SEQUENCE / (width + 1);
-        let step = 3 << (bits_of(width) - 14);
-        let rising: Vec<u64> = (0..count as u64).map(|k| k * step).collect();
-        let falling: Vec<u64> = rising.iter().copied().rev().collect();
-        for identifiers in [rising, falling] {
-            let mut parameters = numbered(identifiers);
-            for parameter in &mut parameters {
-                parameter.widths.0 = width;
-                parameter.value.clear();
-                parameter.widths.1 = 1;
-            }
-            let sequence = in_sequence(&parameters);
-            check_sequence(&sequence, 85);
-            check_sequence(&sequence[..sequence.len() - 1], 81);
-            check_sequence(&[sequence.clone(), vec![0; 9]].concat(), 80);
-            let last = count - 1;
-            let ends = [(0, 1), (last - 1, last), (0, last), (last, 0)];
-            let between = (0..last)
-                .step_by(97)
-                .flat_map(|k| [(0, k + 1), (k, last), (k, k + 1)]);
-            for (one, other) in between.chain(ends) {
-                let mut sequence = sequence.clone();
-                let at = |place| place * (width + 1);
-                sequence.copy_within(at(one)..at(one) + width, at(other));
-                assert_eq!(check_read_parameters(&sequence), Ok(82));
-            }
-        }
     }
 }
