@@ -1,3 +1,4 @@
 pub mod Entries
 pub mod Injective
+pub mod Places
 pub mod Turning

@@ -1,5 +1,4 @@
 pub mod Packets
-pub mod Places
 pub mod Received
 pub mod Rising
 pub mod Worked

@@ -23,7 +23,7 @@ use Rattle.invariants.specs.Limits.{maxDatagram}
 use Rattle.negotiation.specs.Laws.{ReadBack}
 use Rattle.negotiation.specs.Limits.{maxPacket, maxUnusedBits, minAnsweredDatagram}
 use Rattle.negotiation.specs.Packet.{packetLength, packetFor, offerRules, packetRules, negotiationPacket}
-use Rattle.negotiation.proofs.Places.{length-part}
+use Rattle.lists.proofs.Places.{length-part}
 
 -- ---- lengths
 

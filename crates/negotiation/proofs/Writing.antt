@@ -20,7 +20,7 @@ use Rattle.invariants.specs.Header.{versionOf, destinationLength, sourceLength,
 use Rattle.negotiation.specs.Packet.{packetLength, packetFor, offerRules}
 use Rattle.negotiation.specs.Parts.{Lengths, countOf, offerAnswer}
 use Rattle.negotiation.proofs.Packets.{OfferClear, offer-clear, isAnswered, length-packetFor, length-destinationID, length-sourceID}
-use Rattle.negotiation.proofs.Places.{partFrom, putFrom, over, length-put, length-partFrom}
+use Rattle.lists.proofs.Places.{partFrom, putFrom, over, length-put, length-partFrom}
 
 -- ---- answers
 

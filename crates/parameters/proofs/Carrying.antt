@@ -189,7 +189,7 @@ others-carrying value ps =
 -- ---- the same value once more
 
 -- Where ours is missing, a value anew changes nothing
-renewed-missing : (value : List ℕ) (ps : List Content) → holdsOurs ps ≡ false → renewed value ps ≡ ps
+pub renewed-missing : (value : List ℕ) (ps : List Content) → holdsOurs ps ≡ false → renewed value ps ≡ ps
 unfolding holdsOurs renewed
 renewed-missing value [] h = refl
 renewed-missing value (p ∷ ps) h = let n = neither (isOurs p) (holdsOurs ps) h in rw (n .0, renewed-missing value ps (n .1)) refl

@@ -1,7 +1,6 @@
 // The writer of a sequence of transport parameters (RFC 9000 section 18). It answers for every input.
-ghost use mathlib.Core.Bool.{Bool, true, false, not};
+ghost use mathlib.Core.Bool.{true, not};
 ghost use mathlib.Core.Path.{_≡_};
-ghost use Prim.Native.Nat.{_≤_};
 ghost use lib.ListN.{length};
 ghost use Rattle.refusals.specs.Rule.{clear};
 ghost use Rattle.refusals.specs.Written.{writtenReply, counted, leaves};

@@ -9,10 +9,16 @@ use information::Information;
 use information::Sender;
 use information::read_information;
 use information::write_information;
+use integers::Integer;
+use integers::read_integer;
+use integers::write_integer;
 use invariants::Header;
 use invariants::reader::read_header;
 use lists::Span;
 use negotiation::write_version_negotiation;
+use parameters::Carried;
+use parameters_reader::read_parameters;
+use parameters_writer::write_parameters;
 use refusals::Call;
 use refusals::Written;
 
@@ -127,4 +133,50 @@ pub(crate) fn received(label: &[u8], sender: Sender, bytes: &[u8]) {
         }
     }
     text(b"\n");
+}
+
+// An integer at the front of bytes.
+pub(crate) fn integer_in(bytes: &[u8]) {
+    text(b"integer in");
+    hex(bytes);
+    match read_integer(bytes) {
+        Integer::Refused(refusal) => {
+            text(b": ");
+            refused(refusal, Call::Reading);
+        }
+        Integer::Read { value, width } => {
+            text(b": ");
+            number(value);
+            text(b", width ");
+            number(width as u64);
+        }
+    }
+    text(b"\n");
+}
+
+// An integer to write.
+pub(crate) fn integer_to_write(value: u64, buffer: &mut [u8]) {
+    text(b"integer ");
+    number(value);
+    text(b" to write: ");
+    let answer = write_integer(value, buffer);
+    written_in(answer, buffer);
+}
+
+// Where Version Information lies in a sequence of transport parameters.
+pub(crate) fn carried(label: &[u8], sequence: &[u8]) {
+    text(label);
+    match read_parameters(sequence) {
+        Carried::Refused(refusal) => refused(refusal, Call::Reading),
+        Carried::Missing => text(b"Version Information missing"),
+        Carried::At(part) => place(b"Version Information at ", part),
+    }
+    text(b"\n");
+}
+
+// A sequence with Version Information of this value.
+pub(crate) fn carrying(label: &[u8], old: &[u8], value: &[u8], buffer: &mut [u8]) {
+    text(label);
+    let answer = write_parameters(old, value, buffer);
+    written_in(answer, buffer);
 }

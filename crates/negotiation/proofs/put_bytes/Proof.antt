@@ -5,7 +5,7 @@ use mathlib.Core.Path.{_≡_, refl, _∙_}
 use native.Mathlib.Omega.{arith}
 use lib.ListN.{length, take, drop, length-set}
 use denote.Ref.{now}
-use Rattle.negotiation.proofs.Places.{copy-step, copied}
+use Rattle.lists.proofs.Places.{copy-step, copied}
 use Rattle.negotiation.proofs.put_bytes.Statement.{statement}
 use Rattle.negotiation.proofs.put_bytes.Tie as tie
 

@@ -6,7 +6,7 @@ use mathlib.Core.Path.{_≡_, refl, _∙_, ap}
 use native.Mathlib.Omega.{arith}
 use lib.ListN.{length, take, drop, set, length-set}
 use denote.Ref.{now}
-use Rattle.negotiation.proofs.Places.{over, put-one, length-part, length-put, length-partFrom}
+use Rattle.lists.proofs.Places.{over, put-one, length-part, length-put, length-partFrom}
 use Rattle.negotiation.proofs.put_id.Statement.{statement}
 use Rattle.negotiation.proofs.put_id.Tie as tie
 

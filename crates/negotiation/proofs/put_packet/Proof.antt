@@ -5,7 +5,7 @@ use lib.ListN.{length}
 use denote.Ref.{now}
 use Rattle.negotiation.specs.Packet.{packetFor}
 use Rattle.negotiation.proofs.Packets.{length-packetFor}
-use Rattle.negotiation.proofs.Places.{length-put}
+use Rattle.lists.proofs.Places.{length-put}
 use Rattle.negotiation.proofs.Writing.{put-parts}
 use Rattle.negotiation.proofs.put_packet.Statement.{statement}
 use Rattle.negotiation.proofs.put_packet.Tie as tie

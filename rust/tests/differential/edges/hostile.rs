@@ -2,7 +2,7 @@
 
 use super::parameters::check_sequence;
 use crate::checks::*;
-use crate::model::MAX_SEQUENCE;
+use crate::model::{MAX_PARAMETERS, MAX_SEQUENCE};
 use crate::random::{bits_of, integer_in, least_width};
 use quic_version::transport_parameters as library;
 use quic_version::Refusal;
@@ -13,11 +13,13 @@ fn without_values(width: usize, identifiers: impl IntoIterator<Item = u64>) -> V
     identifiers.into_iter().flat_map(one).collect()
 }
 
-/// As many identifiers of a width as a sequence has room for, in even steps.
+/// As many identifiers of a width as a sequence has room for, in even steps: below 16,384 in two
+/// bytes, and from there on in more.
 fn most_in(width: usize) -> Vec<u64> {
     let count = (MAX_SEQUENCE / (width + 1)) as u64;
-    let step = (1 << bits_of(width)) / count;
-    (0..count).map(|k| step * k).collect()
+    let first = if width == 2 { 0 } else { 1 << 14 };
+    let step = ((1 << bits_of(width)) - first) / count;
+    (0..count).map(|k| first + step * k).collect()
 }
 
 /// The identifier of one place at another place too.
@@ -65,6 +67,29 @@ fn repeats_at_each_place_of_the_largest() {
             let repeated = with_repeat(&sequence, width, other, place);
             let answer = library::find_version_information(&repeated);
             assert_eq!(answer, Err(Refusal::IdentifierRepeated));
+        }
+    }
+}
+
+/// Every number of parameters that a sequence has room for, with no repeat, each cut too. The model is
+/// left out again.
+#[test]
+fn every_number_up_to_the_largest() {
+    for width in [2, 4, 8] {
+        let identifiers = most_in(width);
+        let count = identifiers.len();
+        let sequence = without_values(width, identifiers);
+        for parameters in 0..=count {
+            let whole = &sequence[..parameters * (width + 1)];
+            let answer = match parameters {
+                0..=MAX_PARAMETERS => Ok(None),
+                _ => Err(Refusal::TooManyParameters),
+            };
+            assert_eq!(library::find_version_information(whole), answer);
+            if let Some((_, cut)) = whole.split_last() {
+                let answer = library::find_version_information(cut);
+                assert_eq!(answer, Err(Refusal::RunsPastTheEnd));
+            }
         }
     }
 }

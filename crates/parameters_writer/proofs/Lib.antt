@@ -1,0 +1,4 @@
+pub mod Contents
+pub mod Judging
+pub mod Runs
+pub mod Turns
