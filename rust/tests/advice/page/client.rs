@@ -1,6 +1,7 @@
+use quic_version::transport_parameters::{find_version_information, write_version_information};
 use quic_version::{
-    read_header, write_information, Attempt, Header, Pair, Refusal, Sender, MAX_INFORMATION,
-    VERSION_1, VERSION_2,
+    read_header, write_information, Attempt, Header, Pair, Refusal, Sender, WriteRefusal,
+    MAX_INFORMATION, VERSION_1, VERSION_2,
 };
 
 /// The length of the connection IDs that this client hands out.
@@ -8,8 +9,11 @@ const OUR_ID_LENGTH: usize = 8;
 
 /// The layers around, which are yours.
 trait Layers {
-    /// In datagrams of `MIN_ANSWERED_DATAGRAM` bytes or more.
-    fn send_first_flight(&mut self, version: u32, information: &[u8]);
+    /// The client's transport parameters, as the stack encodes them.
+    fn stack_parameters(&self) -> Vec<u8>;
+    /// Has TLS send these transport parameters, in datagrams of `MIN_ANSWERED_DATAGRAM` bytes or
+    /// more.
+    fn send_first_flight(&mut self, version: u32, parameters: &[u8]);
     /// Removes packet protection with the keys of a version, `None` for a short form; drops what it
     /// cannot read.
     fn remove_protection(&mut self, version: Option<u32>, datagram: &[u8]);
@@ -20,6 +24,8 @@ trait Layers {
     fn close_connection(&mut self, code: u64);
     fn give_up(&mut self);
     fn connected(&mut self, version: u32);
+    /// A fault on this side: for the log, not for the server.
+    fn fault(&mut self, text: &str);
 }
 
 struct Client<L> {
@@ -38,14 +44,26 @@ impl<L: Layers> Client<L> {
         Ok(client)
     }
 
-    /// A first flight in the attempted version, with the own list as Available Versions.
+    /// A first flight in the attempted version.
     fn first_flight(&mut self) {
+        let version = self.attempt.attempted();
+        match self.parameters() {
+            Ok(parameters) => self.layers.send_first_flight(version, &parameters),
+            Err(refusal) => self.layers.fault(&refusal.to_string()), // 80 to 82, 85
+        }
+    }
+
+    /// The stack's transport parameters, and among them Version Information: the attempted version,
+    /// with the own list as Available Versions.
+    fn parameters(&self) -> Result<Vec<u8>, WriteRefusal> {
         let (version, own) = (self.attempt.attempted(), self.attempt.own_list());
         let mut information = [0; MAX_INFORMATION];
-        let count = write_information(Sender::Client, version, &own, &mut information)
-            .expect("an own list holds the attempted version, and fits");
-        self.layers
-            .send_first_flight(version, &information[..count]);
+        let count = write_information(Sender::Client, version, &own, &mut information)?;
+        let stack = self.layers.stack_parameters();
+        let mut parameters = vec![0; stack.len() + count + 3]; // Never too short.
+        let count = write_version_information(&stack, &information[..count], &mut parameters)?;
+        parameters.truncate(count);
+        Ok(parameters)
     }
 
     fn datagram(&mut self, datagram: &[u8]) {
@@ -76,8 +94,17 @@ impl<L: Layers> Client<L> {
         let _ = self.attempt.packet_processed(); // 62: the attempt has ended.
     }
 
-    /// The handshake is complete and authenticated.
-    fn handshake_done(&mut self, in_use: u32, information: Option<&[u8]>) {
+    /// The handshake is complete, and has authenticated these transport parameters of the server's.
+    fn handshake_done(&mut self, in_use: u32, parameters: &[u8]) {
+        match find_version_information(parameters) {
+            Ok(information) => self.outcome(in_use, information),
+            Err(refusal) => self.close(refusal), // 80 to 82, 85
+        }
+    }
+
+    /// The same, where the stack has read the parameters itself: `None` if Version Information is
+    /// missing from them.
+    fn outcome(&mut self, in_use: u32, information: Option<&[u8]>) {
         let refusal = match self.attempt.outcome(in_use, information) {
             Ok(version) => return self.layers.connected(version),
             Err(refusal) => refusal,
@@ -85,6 +112,10 @@ impl<L: Layers> Client<L> {
         if matches!(refusal, Refusal::AvailableEmpty | Refusal::Downgraded) {
             self.layers.report(&self.attempt, in_use, information);
         }
+        self.close(refusal);
+    }
+
+    fn close(&mut self, refusal: Refusal) {
         // No code: the attempt had ended before.
         if let Some(code) = refusal.close_code() {
             self.layers.close_connection(code);

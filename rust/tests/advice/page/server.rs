@@ -1,6 +1,8 @@
+use quic_version::transport_parameters::{find_version_information, write_version_information};
 use quic_version::{
     are_pairs, is_table, read_header, server_choice, write_information, write_version_negotiation,
-    Decision, Header, Pair, Sender, WriteRefusal, MAX_INFORMATION, MAX_PACKET, VERSION_1, VERSION_2,
+    Decision, Header, Pair, Sender, WriteRefusal, MAX_INFORMATION, MAX_PACKET, VERSION_1,
+    VERSION_2,
 };
 
 /// The length of the connection IDs that this server hands out.
@@ -19,8 +21,8 @@ enum Flight {
     Unreadable,
     /// The client's transport parameters have not come whole.
     Incomplete,
-    /// They have: with this Version Information, `None` where it is missing.
-    Whole(Option<Vec<u8>>),
+    /// They have: the data of the TLS extension.
+    Whole(Vec<u8>),
 }
 
 /// The layers around, which are yours.
@@ -31,7 +33,10 @@ trait Layers {
     /// Adds a datagram to the first flight with this destination ID, which has one version. One that
     /// is too small for this version is `Unreadable`.
     fn add_to_flight(&mut self, id: &[u8], version: u32, datagram: &[u8]) -> Flight;
-    fn go_on(&mut self, id: &[u8], version: u32, information: &[u8]);
+    /// The server's transport parameters for this connection, as the stack encodes them.
+    fn stack_parameters(&self, id: &[u8]) -> Vec<u8>;
+    /// Goes on in a version, and has TLS send these transport parameters.
+    fn go_on(&mut self, id: &[u8], version: u32, parameters: &[u8]);
     fn send_datagram(&mut self, datagram: &[u8]);
     /// Counts the datagrams that get no packet. Anyone can send them, so they get no line in a log.
     fn unanswered(&mut self, refusal: WriteRefusal);
@@ -64,28 +69,40 @@ fn datagram(layers: &mut impl Layers, datagram: &[u8]) {
 
 fn first_flight(layers: &mut impl Layers, id: &[u8], version: u32, datagram: &[u8]) {
     // A version that is not readable is negotiated at once, whatever the flight holds.
-    let mut information = None;
+    let mut parameters = Vec::new();
     if TABLE.contains(&version) {
         match layers.add_to_flight(id, version, datagram) {
             Flight::Unreadable => return, // Drop it.
             Flight::Incomplete => return, // Wait for more.
-            Flight::Whole(found) => information = found,
+            Flight::Whole(whole) => parameters = whole,
         }
     }
-    match server_choice(&TABLE, &TABLE, &PAIRS, version, information.as_deref()) {
-        Ok(Decision::Use(version)) => {
-            let mut answer = [0; MAX_INFORMATION];
-            match write_information(Sender::Server, version, &TABLE, &mut answer) {
-                Ok(count) => layers.go_on(id, version, &answer[..count]),
-                Err(refusal) => layers.fault(&refusal.to_string()),
-            }
-        }
+    let choice = find_version_information(&parameters).and_then(|information| {
+        // `None` where it is missing; an empty value is not.
+        server_choice(&TABLE, &TABLE, &PAIRS, version, information)
+    });
+    match choice {
+        Ok(Decision::Use(version)) => match answer(&layers.stack_parameters(id), version) {
+            Ok(parameters) => layers.go_on(id, version, &parameters),
+            Err(refusal) => layers.fault(&refusal.to_string()), // 80 to 82, 85
+        },
         Ok(Decision::Negotiate) => negotiate(layers, datagram),
         Err(refusal) => match refusal.close_code() {
             Some(code) => layers.close_connection(id, code),
             None => layers.fault(&refusal.to_string()), // 41, 43
         },
     }
+}
+
+/// The stack's transport parameters, and among them Version Information: the version that was
+/// chosen, with the table as Available Versions.
+fn answer(stack: &[u8], version: u32) -> Result<Vec<u8>, WriteRefusal> {
+    let mut information = [0; MAX_INFORMATION];
+    let count = write_information(Sender::Server, version, &TABLE, &mut information)?;
+    let mut parameters = vec![0; stack.len() + count + 3]; // Never too short.
+    let count = write_version_information(stack, &information[..count], &mut parameters)?;
+    parameters.truncate(count);
+    Ok(parameters)
 }
 
 /// Once for a datagram, with all of it.

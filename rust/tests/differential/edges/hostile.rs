@@ -112,3 +112,18 @@ fn each_small_identifier() {
         check_sequence(&apart, 85);
     }
 }
+
+/// Many identifiers, each beside one that differs from it in one bit, the same for all: no repeat.
+#[test]
+fn many_identifiers_one_bit_apart() {
+    for (width, high) in [(2, None), (4, Some(20)), (8, Some(40))] {
+        let pairs = (MAX_SEQUENCE / (width + 1) / 2) as u64;
+        for bit in 0..bits_of(width) {
+            // Some are large by a bit above the others.
+            let large = high.map_or(0, |high| 1 << (high + u32::from(high == bit)));
+            let without = |k: u64| k >> bit << (bit + 1) | k % (1 << bit) | large;
+            let both = |k: u64| [without(k), without(k) | 1 << bit];
+            check_sequence(&without_values(width, (0..pairs).flat_map(both)), 85);
+        }
+    }
+}
