@@ -140,6 +140,7 @@ read-within bytes f e = go (ltb (length bytes) (widthAt bytes)) (ltb-false (leng
   where
     found : Found
     found = record { value = valueAt bytes (widthAt bytes); width = widthAt bytes }
+
     go : (b : Bool) → (b ≡ false → widthAt bytes ≤ length bytes) → judged Reading ((81 when b) ∷ []) (answered found) ≡ answered f
         → (1 ≤ f .width) × (f .width ≤ length bytes)
     go true h e = absurd (refused-not-answered 81 Reading f e)

@@ -12,7 +12,9 @@ use refusals::Written;
 pub const MAX_INTEGER: u64 = 4611686018427387903;
 // Below these an integer fits in 1, 2 and 4 bytes.
 const HELD_BY_1: u64 = 64;
+
 const HELD_BY_2: u64 = 16384;
+
 const HELD_BY_4: u64 = 1073741824;
 
 // What the reader answers: a refusal (81), or the integer's value and the bytes that it takes.

@@ -53,12 +53,14 @@ field-parts s at f e = with-first (readInteger (drop at s)) refl e
     with-value i l p q true h e = absurd (no-answer 81 (closeOf 81 Reading) f e)
     with-value i l p q false h e =
         record { the-id = i; the-length = l; id-read = p; length-read = q; is = sym (answered-injective _ f e); ends = h refl }
+
     with-second : (i : Found) → readInteger (drop at s) ≡ answered i
         → (r : Reply Found) → readInteger (drop (at + i .width) s) ≡ r
         → behindLength s (i .value) (at + i .width) r ≡ answered f → Parts s at f
     with-second i p (refused n c) q e = absurd (no-answer n c f e)
     with-second i p (answered l) q e =
         with-value i l p q (ltb (length s) (at + i .width + l .width + l .value)) (ltb-false _ _) e
+
     with-first : (r : Reply Found) → readInteger (drop at s) ≡ r → withId s at r ≡ answered f → Parts s at f
     with-first (refused n c) p e = absurd (no-answer n c f e)
     with-first (answered i) p e = with-second i p (readInteger (drop (at + i .width) s)) refl e

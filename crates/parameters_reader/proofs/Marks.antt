@@ -85,8 +85,10 @@ module _ (s : List ℕ) (seen : List Bool) (at : ℕ) (f : Field) (m : Marking s
     where
       place : f .id < length seen
       place = omega (arith, small, m .room)
+
       whole : (v : ℕ) → elem v (idsOf (m .passed ++ (f ∷ []))) ≡ (elem v (idsOf (m .passed)) || eqb (f .id) v)
       whole v = ap (elem v) (ids-snoc (m .passed) f) ∙ elem-snoc v (idsOf (m .passed)) (f .id)
+
       by-equality : (v : ℕ) → v < large → (b : Bool) → eqb (f .id) v ≡ b
           → getD (set seen (f .id) true) v false ≡ (elem v (idsOf (m .passed)) || b)
       by-equality v l true e =
@@ -96,6 +98,7 @@ module _ (s : List ℕ) (seen : List Bool) (at : ℕ) (f : Field) (m : Marking s
       by-equality v l false e =
           getD-set-other seen (f .id) v true false (λ z. eqb-false (f .id) v e (sym z)) ∙ m .marks v l
           ∙ sym (or-false (elem v (idsOf (m .passed))))
+
       marked : (v : ℕ) → v < large → getD (set seen (f .id) true) v false ≡ elem v (idsOf (m .passed ++ (f ∷ [])))
       marked v l = by-equality v l (eqb (f .id) v) refl ∙ sym (whole v)
 
@@ -133,6 +136,7 @@ module _ (s : List ℕ) (seen : List Bool) (at : ℕ) (f : Field) (m : Marking s
     where
       front : Front (m .passed ++ (f ∷ [])) (fieldsIn (fieldsOf s))
       front = front-of s (f .value .end) (m .passed ++ (f ∷ [])) going-on read
+
       twice : f .id < large → getD seen (f .id) false ≡ true → repeats (below large (idsOf (m .passed ++ (f ∷ [])))) ≡ true
       twice small old =
           ap (λ (l : List ℕ). repeats (below large l)) (ids-snoc (m .passed) f)
@@ -141,6 +145,7 @@ module _ (s : List ℕ) (seen : List Bool) (at : ℕ) (f : Field) (m : Marking s
           ∙ repeats-snoc (below large (idsOf (m .passed))) (f .id)
           ∙ rw (elem-below large (f .id) (idsOf (m .passed)) small, ← m .marks (f .id) small, old)
           (or-true (repeats (below large (idsOf (m .passed)))))
+
       by-size : (b : Bool) → (b ≡ true → f .id < large) → cond b (getD seen (f .id) false) false ≡ true
           → repeats (below large (idsOf (fieldsIn (fieldsOf s)))) ≡ true
       by-size false k old = absurd (false≢true old)
@@ -198,6 +203,7 @@ module _ (s numbers : List ℕ) (at count : ℕ) (f : Field) (g : Gathering s nu
     where
       place : count < length numbers
       place = omega (arith, g .few, g .room, takes, inside .in-order, inside .ends, short)
+
       one-more : fromOn large (idsOf (g .passed ++ (f ∷ []))) ≡ fromOn large (idsOf (g .passed)) ++ (f .id ∷ [])
       one-more = ids-on ∙ rw (le-ltb (f .id) large size)
 

@@ -6,6 +6,7 @@ use parameters::MAX_SEQUENCE;
 
 // One more than a sequence may have, of three bytes each.
 const MANY: usize = MAX_PARAMETERS + 1;
+
 const MANY_BYTES: usize = 3 * MANY;
 // The bytes of as many as it may have.
 const MOST_BYTES: usize = 3 * MAX_PARAMETERS;
@@ -33,7 +34,7 @@ fn read() {
     longest[4] = 0xfb;
     carried(b"parameters in 16384 bytes, one of them: ", &longest);
     let many = distinct();
-    carried(b"64 parameters: ", &many[..MOST_BYTES]);
+    carried(b"64 parameters: ", most(&many));
 }
 
 fn read_refused() {
@@ -61,23 +62,68 @@ fn written() {
         &mut buffer,
     );
     let mut short = [0xeeu8; 6];
-    carrying(b"40 05 00 with value ff: ", b"\x40\x05\0", b"\xff", &mut short);
+    carrying(
+        b"40 05 00 with value ff: ",
+        b"\x40\x05\0",
+        b"\xff",
+        &mut short,
+    );
     let mut shorter = [0xeeu8; 3];
-    carrying(b"no parameters with an empty value: ", b"", b"", &mut shorter);
+    carrying(
+        b"no parameters with an empty value: ",
+        b"",
+        b"",
+        &mut shorter,
+    );
 }
 
 fn write_refused() {
     let mut buffer = [0xeeu8; 4];
     let long = [0u8; MAX_SEQUENCE];
-    carrying(b"no parameters with a value of 16384 bytes: ", b"", &long, &mut buffer);
-    carrying(b"01 02 aa with value ff: ", b"\x01\x02\xaa", b"\xff", &mut buffer);
-    carrying(b"05 00 05 00 with value ff: ", b"\x05\0\x05\0", b"\xff", &mut buffer);
-    carrying(b"40 05 00 with value ff for a buffer of 4: ", b"\x40\x05\0", b"\xff", &mut buffer);
+    carrying(
+        b"no parameters with a value of 16384 bytes: ",
+        b"",
+        &long,
+        &mut buffer,
+    );
+    carrying(
+        b"01 02 aa with value ff: ",
+        b"\x01\x02\xaa",
+        b"\xff",
+        &mut buffer,
+    );
+    carrying(
+        b"05 00 05 00 with value ff: ",
+        b"\x05\0\x05\0",
+        b"\xff",
+        &mut buffer,
+    );
+    carrying(
+        b"40 05 00 with value ff for a buffer of 4: ",
+        b"\x40\x05\0",
+        b"\xff",
+        &mut buffer,
+    );
     let many = distinct();
-    carrying(b"65 parameters with value ff: ", &many, b"\xff", &mut buffer);
-    carrying(b"64 parameters, none ours, with value ff for a buffer of 4: ", &many[..MOST_BYTES], b"\xff", &mut buffer);
+    carrying(
+        b"65 parameters with value ff: ",
+        &many,
+        b"\xff",
+        &mut buffer,
+    );
+    carrying(
+        b"64 parameters, none ours, with value ff for a buffer of 4: ",
+        most(&many),
+        b"\xff",
+        &mut buffer,
+    );
     let mut room = [0xeeu8; MANY_BYTES];
-    carrying(b"64 parameters, none ours, with value ff: ", &many[..MOST_BYTES], b"\xff", &mut room);
+    carrying(
+        b"64 parameters, none ours, with value ff: ",
+        most(&many),
+        b"\xff",
+        &mut room,
+    );
 }
 
 // Parameters with the identifiers from 64 on and no value, one more than a sequence may have.
@@ -91,4 +137,12 @@ fn distinct() -> [u8; MANY_BYTES] {
         k += 1;
     }
     bytes
+}
+
+// As many of them as a sequence may have.
+fn most(many: &[u8]) -> &[u8] {
+    if MOST_BYTES < many.len() {
+        return &many[..MOST_BYTES];
+    }
+    many
 }

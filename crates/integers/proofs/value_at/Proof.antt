@@ -60,11 +60,13 @@ loop-again c =
     let loop = c .before .before .before .loop in
     let start = c .before .before .before .before .before .before .before in
     let s = start .args .bytes .now in
-    let w = start .args .width in
-    (search needs, search needs,
-    omega (arith, loop .inv .2, bound-step (loop .i) (loop .inv .0), c .wide2 .ensures, c .before .shared-slice-known3 .given (loop .i)),
-    ap (λ (x : ℕ). fromBytes (loop .value * 256 + x) (slice (loop .i + 1) w s)) (c .wide2 .ensures)
-    ∙ sym (next-byte s w (loop .i) (loop .value) (c .before .before .loop-test .taken) (start .pre .2)) ∙ loop .inv .3)
+    let w = start .args .width in (
+      search needs,
+      search needs,
+      omega (arith, loop .inv .2, bound-step (loop .i) (loop .inv .0), c .wide2 .ensures, c .before .shared-slice-known3 .given (loop .i)),
+      ap (λ (x : ℕ). fromBytes (loop .value * 256 + x) (slice (loop .i + 1) w s)) (c .wide2 .ensures)
+          ∙ sym (next-byte s w (loop .i) (loop .value) (c .before .before .loop-test .taken) (start .pre .2)) ∙ loop .inv .3,
+    )
 
 returns : tie.Need-returns Inv-loop μ-loop
 unfolding fromBytes

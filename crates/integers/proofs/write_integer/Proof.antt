@@ -42,9 +42,12 @@ returns-2 c = rw (le-ltb _ _ (small (c .before)), ← width (c .before), lt-ltb 
 put-in-width-requires : tie.Need-put-in-width-requires
 put-in-width-requires c κs =
     let value = c .before .before .before .before .before .before .args .value in
-    let form = c .before .before .before .form-of .ensures in
-    (subst (λ (x : ℕ). x < 4) (sym form) (shortest-lt value), c .before .before .width-of .ensures,
-    subst (λ (x : ℕ). value < heldBelow x) (sym form) (shortest-holds value (small (c .before .before))), search needs)
+    let form = c .before .before .before .form-of .ensures in (
+      subst (λ (x : ℕ). x < 4) (sym form) (shortest-lt value),
+      c .before .before .width-of .ensures,
+      subst (λ (x : ℕ). value < heldBelow x) (sym form) (shortest-holds value (small (c .before .before))),
+      search needs,
+    )
 
 same-length : tie.Need-same-length
 same-length c = search needs
@@ -56,10 +59,11 @@ returns-3 c =
     let at = put .before .before .before in
     let args = at .before .before .before .before .args in
     let width-is : at .width-of .result ≡ length (shortestBytes (args .value)) = width at ∙ sym (length-shortest (args .value)) in
-    rw (le-ltb _ _ (small at), ← width at, le-ltb _ _ (put .before .before .if2 .left))
-    (ap answered width-is,
-    put .put-in-width .ensures
-    ∙ ap₂ (λ (x y : ℕ). integerBytes x (args .value) ++ drop y (now (args .buffer))) (at .before .form-of .ensures) width-is)
+    rw (le-ltb _ _ (small at), ← width at, le-ltb _ _ (put .before .before .if2 .left)) (
+      ap answered width-is,
+      put .put-in-width .ensures
+          ∙ ap₂ (λ (x y : ℕ). integerBytes x (args .value) ++ drop y (now (args .buffer))) (at .before .form-of .ensures) width-is,
+    )
 
 pub write-integer-spec : {M : Type 1} → statement M
 write-integer-spec =
