@@ -40,17 +40,17 @@ module _ (s : List ℕ) (short : length s ≤ maxSequence) where
     all-read r h = rw (le-ltb _ _ short, read, r, le-ltb _ _ h)
 
 -- What a walk tells of the parameters
-pub record Told (r : Reply (List Field)) (n : ℕ) (place : Reply (Option Span)) (ids : List ℕ) : Type 0 where
+pub record Told (r : Reply (List Field)) (n : ℕ) (place : Option Span) (ids : List ℕ) : Type 0 where
   pub read : runsPast r ≡ false
   pub counts : n ≡ length (fieldsIn r)
-  pub lies : place ≡ answered (carried (fieldsIn r))
+  pub lies : place ≡ carried (fieldsIn r)
   pub notes : length (fieldsIn r) ≤ maxParameters → take (length (fieldsIn r)) ids ≡ idsOf (fieldsIn r)
 
 pub told-past : (r : Reply (List Field)) → past ≡ passageOf r → runsPast r ≡ true
 told-past (refused n c) e = refl
 told-past (answered fs) e = let z : _≡_ {A = ℕ} 0 1 = cc in absurd (omega arith)
 
-pub told-through : (r : Reply (List Field)) (n : ℕ) (place : Reply (Option Span)) (ids : List ℕ)
+pub told-through : (r : Reply (List Field)) (n : ℕ) (place : Option Span) (ids : List ℕ)
     → through n place ≡ passageOf r → Noted r ids → Told r n place ids
 unfolding Noted
 told-through (refused m c) n place ids e h = let z : _≡_ {A = ℕ} 0 1 = cc in absurd (omega arith)

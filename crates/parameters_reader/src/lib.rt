@@ -16,6 +16,7 @@ mod walk; // the walk over a sequence
 use crate::identifiers::few_repeat;
 use crate::identifiers::many_repeat;
 use crate::walk::Walked;
+use crate::walk::carried_at;
 use crate::walk::walk;
 use parameters::Carried;
 use parameters::MAX_PARAMETERS;
@@ -34,14 +35,14 @@ pub fn read_parameters(sequence: &[u8]) -> Carried
     let mut ids = [0u64; MAX_PARAMETERS];
     match walk(sequence, &mut ids) {
         Walked::RunsPast => Carried::Refused(Refusal::RUNS_PAST_THE_END),
-        Walked::Through { count, carried } => {
+        Walked::Through { count, ours } => {
             if MAX_PARAMETERS < count {
                 return Carried::Refused(refusal_of_many(sequence));
             }
             if few_repeat(&ids[..count]) {
                 return Carried::Refused(Refusal::IDENTIFIER_REPEATED);
             }
-            carried
+            carried_at(sequence, ours)
         }
     }
 }

@@ -6,10 +6,11 @@ use borrow.Author.Needs.{needs}
 use denote.Ref.{now}
 use lib.ListN.{length, take}
 use lib.Seq.{length-take-le}
+use Rattle.refusals.specs.Reply.{Reply.answered}
 use Rattle.parameters.specs.Limits.{maxParameters, maxSequence}
-use Rattle.parameters.specs.Reading.{carriedReply, fieldsIn}
-use Rattle.parameters.specs.Sequence.{fieldsOf, idsOf, repeats}
-use Rattle.parameters_reader.specs.Walking.{walkedAs}
+use Rattle.parameters.specs.Reading.{fieldsIn}
+use Rattle.parameters.specs.Sequence.{fieldAt, fieldsOf, idsOf, repeats}
+use Rattle.parameters_reader.specs.Walking.{carriedThere, walkedAs}
 use Rattle.parameters_reader.proofs.Judging.{Told, all-read, past-the-end, repeated, told-past, told-through, too-long}
 use Rattle.parameters_reader.proofs.read_parameters.Statement.{statement}
 use Rattle.parameters_reader.proofs.read_parameters.Tie as tie
@@ -38,11 +39,11 @@ short k = k .before .before .if1 .left
 
 -- What the walk told
 through-it : (k : tie.After-count) →
-    Told (fieldsOf (now (entry k .args .sequence))) (k .count .given .0 .0) (carriedReply (k .count .given .0 .1 .0))
+    Told (fieldsOf (now (entry k .args .sequence))) (k .count .given .0 .0) (carriedThere (fieldAt (now (entry k .args .sequence)) (k .count .given .0 .1 .0)))
     (k .before .before .before .walk .last .1 .0)
 through-it k =
     let call = k .before .before .before .walk in
-    told-through _ _ _ _ (sym (ap walkedAs (k .count .given .1)) ∙ call .ensures .0) (call .ensures .1)
+    told-through _ _ _ _ (sym (ap (walkedAs _) (k .count .given .1)) ∙ call .ensures .0) (call .ensures .1)
 
 refusal-of-many-requires : tie.Need-refusal-of-many-requires
 refusal-of-many-requires c κs =
@@ -89,13 +90,18 @@ returns-4 c =
     let k = c .before .before .before in
     let call = k .walk in
     let s = now (k .before .before .before .before .args .sequence) in
-    past-the-end s (short k) (told-past (fieldsOf s) (sym (ap walkedAs (c .enum-told .given .1)) ∙ call .ensures .0))
+    past-the-end s (short k) (told-past (fieldsOf s) (sym (ap (walkedAs _) (c .enum-told .given .1)) ∙ call .ensures .0))
+
+carried-at-requires : tie.Need-carried-at-requires
+carried-at-requires c κs = search needs
 
 returns-5 : tie.Need-returns-5
 returns-5 c =
-    let k = c .before .before .before .before .before in
+    let else3 = c .before in
+    let k = else3 .before .before .before .before .before in
     let told = through-it k in
-    told .lies ∙ all-read _ (short (k .before .before .before)) (told .read) (twice (c .before) ∙ c .if3 .left) (few (c .before))
+    c .carried-at .ensures ∙ ap answered (told .lies)
+    ∙ all-read _ (short (k .before .before .before)) (told .read) (twice (else3 .before) ∙ else3 .if3 .left) (few (else3 .before))
 
 pub read-parameters-spec : {M : Type 1} → statement M
 read-parameters-spec =
@@ -112,5 +118,6 @@ read-parameters-spec =
     slice-aggregate-few-repeat
     few-repeat-requires
     returns-3
+    carried-at-requires
     returns-4
     returns-5)

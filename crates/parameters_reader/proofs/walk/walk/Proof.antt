@@ -14,10 +14,10 @@ use Rattle.parameters_reader.proofs.walk.walk.Statement.{statement}
 use Rattle.parameters_reader.proofs.walk.walk.Tie as tie
 
 abbrev Inv-loop : tie.InvT-loop
-Inv-loop sequence ids₀ at₀ count₀ carried₀ ids at count carried = Passing sequence ids at count carried
+Inv-loop sequence ids₀ at₀ count₀ ours₀ ids at count ours = Passing sequence ids at count ours
 
 abbrev μ-loop : tie.MeasureT-loop
-μ-loop sequence ids₀ at₀ count₀ carried₀ ids at count carried = length sequence - at
+μ-loop sequence ids₀ at₀ count₀ ours₀ ids at count ours = length sequence - at
 
 loop-holds : tie.Need-loop-holds Inv-loop μ-loop
 loop-holds c = starts _ _ (c .before .before .pre)
@@ -91,7 +91,7 @@ returns-2 c =
     let at = c .before in
     let p = at .loop .inv in
     let all = ended _ _ (p .passed) (p .going) (c .loop-test .left) in
-    rw (all, p .counts, p .lies) (refl, p .notes)
+    rw (all, p .counts, p .begins .lies) (refl, p .notes)
 
 pub walk-spec : {M : Type 1} → statement M
 walk-spec =
