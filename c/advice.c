@@ -29,7 +29,7 @@ static void expect(int holds, const char *what, int line)
 static char asked[256];
 static uint32_t asked_version;
 static uint64_t asked_code;
-static uint8_t sent[QV_MAX_INFORMATION];
+static uint8_t sent[QV_MAX_SEQUENCE];
 static size_t sent_len;
 
 static void ask(const char *word)
@@ -57,11 +57,26 @@ static void send_bytes(const char *word, const uint8_t *bytes, size_t count)
     sent_len = count;
 }
 
+/*
+ * The stack's transport parameters: max_idle_timeout, and a reserved one (27) whose identifier and
+ * length are not in the shortest form. The same in the shortest form.
+ */
+static const uint8_t plain[] = {0x01, 0x02, 0x67, 0x10, 0x40, 0x1b, 0x40, 0x02, 0xaa, 0xbb};
+static const uint8_t shortest[] = {0x01, 0x02, 0x67, 0x10, 0x1b, 0x02, 0xaa, 0xbb};
+static const uint8_t *stack = plain;
+static size_t stack_size = sizeof plain;
+
+const uint8_t *stack_parameters(size_t *stack_len)
+{
+    *stack_len = stack_size;
+    return stack;
+}
+
 /* The client's layers. */
 
-void send_first_flight(uint32_t version, const uint8_t *information, size_t information_len)
+void send_first_flight(uint32_t version, const uint8_t *parameters, size_t parameters_len)
 {
-    send_bytes("flight", information, information_len);
+    send_bytes("flight", parameters, parameters_len);
     asked_version = version;
 }
 
@@ -115,9 +130,8 @@ void fault(const char *text)
 }
 
 /*
- * The server's layers. The handshake layer has parameters of one byte that counts the bytes after
- * it, and one that tells whether the rest is Version Information. A datagram whose rest begins with
- * 0xee cannot be read.
+ * The server's layers. The handshake layer has transport parameters with one byte before them that
+ * counts their bytes. A datagram whose rest begins with 0xee cannot be read.
  */
 static uint8_t collected[256];
 static size_t collected_len;
@@ -141,7 +155,7 @@ void to_connection(const uint8_t *id, size_t id_len, const uint8_t *datagram, si
 struct flight add_to_flight(const uint8_t *id, size_t id_len, uint32_t version,
                             const uint8_t *datagram, size_t datagram_len)
 {
-    struct flight flight = {FLIGHT_UNREADABLE, QV_MISSING, NULL, 0};
+    struct flight flight = {FLIGHT_UNREADABLE, NULL, 0};
     const uint8_t *rest = datagram + 7 + 2 * OUR_ID_LENGTH;
     size_t rest_len;
 
@@ -158,16 +172,15 @@ struct flight add_to_flight(const uint8_t *id, size_t id_len, uint32_t version,
     flight.state = FLIGHT_INCOMPLETE;
     if (collected_len == 1u + collected[0]) {
         flight.state = FLIGHT_WHOLE;
-        flight.presence = collected[1];
-        flight.information = collected + 2;
-        flight.information_len = collected_len - 2;
+        flight.parameters = collected + 1;
+        flight.parameters_len = collected_len - 1;
     }
     return flight;
 }
 
-void go_on(uint32_t version, const uint8_t *information, size_t information_len)
+void go_on(uint32_t version, const uint8_t *parameters, size_t parameters_len)
 {
-    send_bytes("go-on", information, information_len);
+    send_bytes("go-on", parameters, parameters_len);
     asked_version = version;
 }
 
@@ -223,6 +236,37 @@ static size_t information_of(uint8_t *bytes, uint32_t chosen, const uint32_t *av
     return count;
 }
 
+/* Transport parameters of a server: its Version Information behind others; returns their length. */
+static size_t parameters_of(uint8_t *bytes, uint32_t chosen, const uint32_t *available,
+                            size_t available_len)
+{
+    uint8_t information[QV_MAX_INFORMATION];
+    size_t count = information_of(information, chosen, available, available_len);
+
+    EXPECT(count < 64);
+    memcpy(bytes, plain, sizeof plain);
+    bytes[sizeof plain] = QV_VERSION_INFORMATION;
+    bytes[sizeof plain + 1] = (uint8_t)count;
+    memcpy(bytes + sizeof plain + 2, information, count);
+    return sizeof plain + 2 + count;
+}
+
+/* Whether the shortest form of the stack's parameters was sent, and then Version Information. */
+static int was_sent(uint32_t chosen, const uint32_t *available, size_t available_len)
+{
+    uint8_t information[4 + 4 * 8] = {0};
+    size_t i;
+
+    EXPECT(available_len <= 8);
+    put(information, chosen);
+    for (i = 0; i < available_len; i++)
+        put(information + 4 + 4 * i, available[i]);
+    return sent_len == sizeof shortest + 2 + 4 + 4 * available_len &&
+           memcmp(sent, shortest, sizeof shortest) == 0 && sent[sizeof shortest] == 0x11 &&
+           sent[sizeof shortest + 1] == 4 + 4 * available_len &&
+           memcmp(sent + sizeof shortest + 2, information, 4 + 4 * available_len) == 0;
+}
+
 /* An attempt with table 14, 12, 10 and Original Version 12. */
 static struct qv_attempt attempting(void)
 {
@@ -249,11 +293,11 @@ static void client(void)
 {
     static const uint32_t both[] = {VERSION_2, VERSION_1};
     struct qv_attempt attempt;
-    uint8_t packet[64], information[QV_MAX_INFORMATION];
+    uint8_t packet[64], parameters[64];
     size_t count;
 
     EXPECT(client_start(&attempt, destination, sizeof destination, source, sizeof source));
-    EXPECT(was_asked("flight ") && asked_version == VERSION_1 && sent_len == 12);
+    EXPECT(was_asked("flight ") && asked_version == VERSION_1 && was_sent(VERSION_1, both, 2));
 
     client_datagram(&attempt, packet, long_form(packet, VERSION_1, source, destination, NULL, 0));
     EXPECT(was_asked("protection ") && asked_version == VERSION_1);
@@ -272,10 +316,10 @@ static void client(void)
     negotiation_with(&attempt, VERSION_2, source, destination);
     EXPECT(was_asked("") && attempt.attempted == VERSION_1);
 
-    count = information_of(information, VERSION_2, both, 2);
-    client_handshake_done(&attempt, VERSION_2, QV_GIVEN, information, count);
+    count = parameters_of(parameters, VERSION_2, both, 2);
+    client_handshake_done(&attempt, VERSION_2, parameters, count);
     EXPECT(was_asked("connected ") && asked_version == VERSION_2);
-    client_handshake_done(&attempt, VERSION_2, QV_MISSING, NULL, 0);
+    client_handshake_done(&attempt, VERSION_2, NULL, 0);
     client_packet_processed(&attempt);
     EXPECT(was_asked(""));
 }
@@ -284,8 +328,9 @@ static void client(void)
 static void client_led_to_10(void)
 {
     static const uint32_t all[] = {14, 12, 10};
+    static const uint32_t ten[] = {10};
     static const uint8_t other[OUR_ID_LENGTH] = {1, 2, 3, 4, 5, 6, 7, 8};
-    uint8_t information[QV_MAX_INFORMATION];
+    uint8_t parameters[64];
     size_t available_len;
 
     for (available_len = 0; available_len <= 3; available_len += 3) {
@@ -294,12 +339,12 @@ static void client_led_to_10(void)
         negotiation_with(&attempt, 10, source, other);
         EXPECT(was_asked("") && attempt.attempted == 12);
         negotiation_with(&attempt, 10, source, destination);
-        EXPECT(was_asked("keep flight ") && asked_version == 10);
+        EXPECT(was_asked("keep flight ") && asked_version == 10 && was_sent(10, ten, 1));
         negotiation_with(&attempt, 14, source, destination);
         negotiation_with(&attempt, 14, other, other);
         EXPECT(was_asked("") && attempt.attempted == 10);
-        client_handshake_done(&attempt, 10, QV_GIVEN, information,
-                              information_of(information, 10, all, available_len));
+        client_handshake_done(&attempt, 10, parameters,
+                              parameters_of(parameters, 10, all, available_len));
         EXPECT(was_asked("report close ") && asked_code == QV_VERSION_NEGOTIATION_ERROR);
         EXPECT(attempt.end_value == (available_len == 0 ? QV_AVAILABLE_EMPTY : QV_DOWNGRADED));
     }
@@ -307,6 +352,8 @@ static void client_led_to_10(void)
 
 static void client_ends(void)
 {
+    static const struct information missing = {QV_MISSING, NULL, 0};
+    static const struct information three = {QV_GIVEN, source, 3};
     struct qv_attempt attempt = attempting();
 
     negotiation_with(&attempt, 13, source, destination);
@@ -315,12 +362,16 @@ static void client_ends(void)
     attempt = attempting();
     negotiation_with(&attempt, 10, source, destination);
     EXPECT(was_asked("keep flight "));
-    client_handshake_done(&attempt, 10, QV_MISSING, NULL, 0);
+    client_handshake_done(&attempt, 10, plain, sizeof plain);
     EXPECT(was_asked("close ") && asked_code == QV_VERSION_NEGOTIATION_ERROR);
 
+    /* A stack that has read the parameters itself hands the value over. */
     attempt = attempting();
-    client_handshake_done(&attempt, 12, QV_GIVEN, source, 3);
+    client_outcome(&attempt, 12, three);
     EXPECT(was_asked("close ") && asked_code == QV_TRANSPORT_PARAMETER_ERROR);
+    attempt = attempting();
+    client_outcome(&attempt, 12, missing);
+    EXPECT(was_asked("connected ") && asked_version == 12);
 }
 
 /* No record of qv_start: a fault on this side, and 0 is never handed on as a close code. */
@@ -331,8 +382,9 @@ static void client_faults(void)
     attempt.table_len = QV_MAX_TABLE + 1;
     client_datagram(&attempt, source, sizeof source);
     client_packet_processed(&attempt);
-    client_handshake_done(&attempt, 12, QV_MISSING, NULL, 0);
-    EXPECT(was_asked("fault fault fault "));
+    client_handshake_done(&attempt, 12, NULL, 0);
+    first_flight(&attempt);
+    EXPECT(was_asked("fault fault fault fault "));
 }
 
 /* A datagram of a first flight: a part of the parameters, its length before it, and padding. */
@@ -365,10 +417,15 @@ static void flight(uint32_t version, const uint8_t *parameters, size_t first, si
 
 static void server(void)
 {
-    static const uint8_t upgrade[] = {13, 1, 0, 0, 0, 1, 0x6b, 0x33, 0x43, 0xcf, 0, 0, 0, 1};
-    static const uint8_t missing[] = {1, 0};
-    static const uint8_t too_short[] = {4, 1, 0, 0, 1};
-    static const uint8_t other_version[] = {9, 1, 0, 0, 0, 2, 0, 0, 0, 2};
+    static const uint8_t upgrade[] = {17, 0x1b, 1, 0xff, 0x11, 12, 0, 0, 0, 1, 0x6b, 0x33, 0x43,
+                                      0xcf, 0, 0, 0, 1};
+    static const uint8_t missing[] = {4, 0x01, 2, 0x67, 0x10};
+    static const uint8_t none_at_all[] = {0};
+    static const uint8_t empty[] = {2, 0x11, 0};
+    static const uint8_t too_short[] = {5, 0x11, 3, 0, 0, 1};
+    static const uint8_t other_version[] = {10, 0x11, 8, 0, 0, 0, 2, 0, 0, 0, 2};
+    static const uint8_t runs_past[] = {4, 0x11, 3, 0, 0};
+    static const uint8_t repeated[] = {5, 0x11, 0, 0x40, 0x11, 0};
     static const uint8_t unreadable[] = {0xee};
     uint8_t packet[64], small[QV_MIN_ANSWERED_DATAGRAM];
     size_t cut;
@@ -376,11 +433,21 @@ static void server(void)
     EXPECT(server_is_configured());
     for (cut = 1; cut <= sizeof upgrade; cut++) {
         flight(VERSION_1, upgrade, cut, sizeof upgrade);
-        EXPECT(was_asked("go-on ") && asked_version == VERSION_2 && sent_len == 12);
+        EXPECT(was_asked("go-on ") && asked_version == VERSION_2);
+        EXPECT(was_sent(VERSION_2, server_table, 2));
     }
-    flight(VERSION_1, missing, 2, 2);
+    flight(VERSION_1, missing, 2, sizeof missing);
     EXPECT(was_asked("go-on ") && asked_version == VERSION_1);
+    EXPECT(was_sent(VERSION_1, server_table, 2));
+    flight(VERSION_1, none_at_all, 1, 1);
+    EXPECT(was_asked("go-on ") && asked_version == VERSION_1);
+    flight(VERSION_1, empty, 2, sizeof empty);
+    EXPECT(was_asked("close ") && asked_code == QV_TRANSPORT_PARAMETER_ERROR);
     flight(VERSION_1, too_short, 2, sizeof too_short);
+    EXPECT(was_asked("close ") && asked_code == QV_TRANSPORT_PARAMETER_ERROR);
+    flight(VERSION_1, runs_past, 2, sizeof runs_past);
+    EXPECT(was_asked("close ") && asked_code == QV_TRANSPORT_PARAMETER_ERROR);
+    flight(VERSION_1, repeated, 2, sizeof repeated);
     EXPECT(was_asked("close ") && asked_code == QV_TRANSPORT_PARAMETER_ERROR);
     flight(VERSION_1, other_version, 2, sizeof other_version);
     EXPECT(was_asked("close ") && asked_code == QV_VERSION_NEGOTIATION_ERROR);
@@ -398,13 +465,13 @@ static void server(void)
     EXPECT(was_asked("") && too_small == sizeof small - 7 - 2 * OUR_ID_LENGTH);
 
     /* In a readable version the stack drops it, and nothing is decided. */
-    datagram_of(small, VERSION_1, missing, 2);
+    datagram_of(small, VERSION_1, missing, sizeof missing);
     server_datagram(small, sizeof small - 1);
     EXPECT(was_asked("") && too_small == sizeof small - 7 - 2 * OUR_ID_LENGTH);
 
     /* Version Negotiation, a datagram cut short, a short form of no connection: silence. */
     server_datagram(packet, long_form(packet, 0, destination, source, missing, 2));
-    server_datagram(packet, long_form(packet, 0, destination, source, upgrade + 2, 4));
+    server_datagram(packet, long_form(packet, 0, destination, source, upgrade + 6, 4));
     server_datagram(packet, 9);
     memset(packet, 0x40, sizeof packet);
     server_datagram(packet, sizeof packet);
@@ -427,7 +494,8 @@ static void accepted_through_a_pair_but_not_offered(void)
     static const struct qv_pair pairs[] = {{VERSION_1, VERSION_2}};
     struct qv_started started = qv_start(table, 3, pairs, 1, 14, destination, sizeof destination,
                                          source, sizeof source);
-    uint8_t first[QV_MIN_ANSWERED_DATAGRAM], answer[QV_MAX_PACKET], information[QV_MAX_INFORMATION];
+    struct information information = {QV_MISSING, NULL, 0};
+    uint8_t first[QV_MIN_ANSWERED_DATAGRAM], answer[QV_MAX_PACKET], parameters[64];
     uint32_t decision = 0;
     size_t count = 0;
 
@@ -440,13 +508,217 @@ static void accepted_through_a_pair_but_not_offered(void)
            QV_OK);
     client_datagram(&started.attempt, answer, count);
     EXPECT(was_asked("keep flight ") && asked_version == VERSION_1);
-    EXPECT(qv_server_choice(one, 1, accepted, 2, pairs, 1, VERSION_1, QV_GIVEN, sent, sent_len,
-                            &decision) == QV_OK);
+    EXPECT(find_information(sent, sent_len, &information) == QV_OK);
+    EXPECT(qv_server_choice(one, 1, accepted, 2, pairs, 1, VERSION_1, information.presence,
+                            information.bytes, information.len, &decision) == QV_OK);
     EXPECT(decision == VERSION_2);
-    count = information_of(information, VERSION_2, one, 1);
-    client_handshake_done(&started.attempt, VERSION_2, QV_GIVEN, information, count);
+    count = parameters_of(parameters, VERSION_2, one, 1);
+    client_handshake_done(&started.attempt, VERSION_2, parameters, count);
     EXPECT(was_asked("report close ") && asked_version == VERSION_2);
     EXPECT(started.attempt.attempted == VERSION_1 && started.attempt.end_value == QV_DOWNGRADED);
+}
+
+/* The page's client and the page's server, by what each has TLS send. */
+static void client_and_server(void)
+{
+    struct qv_attempt attempt;
+    uint8_t datagram[QV_MIN_ANSWERED_DATAGRAM], part[64];
+
+    EXPECT(client_start(&attempt, destination, sizeof destination, source, sizeof source));
+    EXPECT(was_asked("flight ") && sent_len < sizeof part - 1);
+    part[0] = (uint8_t)sent_len;
+    memcpy(part + 1, sent, sent_len);
+    collected_len = 0;
+    server_datagram(datagram, datagram_of(datagram, VERSION_1, part, 1 + sent_len));
+    EXPECT(was_asked("go-on ") && asked_version == VERSION_2);
+    client_handshake_done(&attempt, VERSION_2, sent, sent_len);
+    EXPECT(was_asked("connected ") && asked_version == VERSION_2);
+}
+
+/* Given, missing and refused are three answers. */
+static void missing_is_neither_empty_nor_refused(void)
+{
+    static const uint8_t empty[] = {0x11, 0};
+    static const uint8_t repeated[] = {0x11, 4, 0, 0, 0, 12, 0x40, 0x11, 4, 0, 0, 0, 14};
+    static const uint8_t cut[] = {0x01, 2, 0x67};
+    static uint8_t many[3 * (QV_MAX_PARAMETERS + 1)], too_long[QV_MAX_SEQUENCE + 1];
+    struct information information = {QV_MISSING, NULL, 0};
+    struct qv_attempt attempt = attempting();
+    uint32_t decision = 7;
+    size_t i;
+
+    /* An empty value is given, and a 31; who tells it by its length takes it for missing. */
+    EXPECT(find_information(empty, sizeof empty, &information) == QV_OK);
+    EXPECT(information.presence == QV_GIVEN && information.len == 0);
+    client_handshake_done(&attempt, 12, empty, sizeof empty);
+    EXPECT(was_asked("close ") && asked_code == QV_TRANSPORT_PARAMETER_ERROR);
+    EXPECT(attempt.end_value == QV_INFORMATION_TOO_SHORT);
+    attempt = attempting();
+    EXPECT(qv_outcome_without_information(&attempt, 12) == QV_OK);
+
+    /* Missing, and handed over as no bytes: a 31 for an honest peer. */
+    attempt = attempting();
+    client_handshake_done(&attempt, 12, plain, sizeof plain);
+    EXPECT(was_asked("connected "));
+    attempt = attempting();
+    EXPECT(qv_outcome(&attempt, 12, NULL, 0) == QV_INFORMATION_TOO_SHORT);
+    EXPECT(qv_server_choice(server_table, 2, server_table, 2, server_pairs, 1, VERSION_1, QV_GIVEN,
+                            NULL, 0, &decision) == QV_INFORMATION_TOO_SHORT);
+    EXPECT(qv_server_choice(server_table, 2, server_table, 2, server_pairs, 1, VERSION_1,
+                            QV_MISSING, NULL, 0, &decision) == QV_OK && decision == VERSION_1);
+
+    /* 82, 81, 85, 80: closed with 0x08; the attempt is as it was, to be forgotten. */
+    for (i = 0; i <= QV_MAX_PARAMETERS; i++) {
+        many[3 * i] = 0x40;
+        many[3 * i + 1] = (uint8_t)(64 + i);
+    }
+    attempt = attempting();
+    client_handshake_done(&attempt, 12, repeated, sizeof repeated);
+    EXPECT(was_asked("close ") && asked_code == QV_TRANSPORT_PARAMETER_ERROR);
+    client_handshake_done(&attempt, 12, cut, sizeof cut);
+    EXPECT(was_asked("close ") && asked_code == QV_TRANSPORT_PARAMETER_ERROR);
+    client_handshake_done(&attempt, 12, many, sizeof many);
+    EXPECT(was_asked("close ") && asked_code == QV_TRANSPORT_PARAMETER_ERROR);
+    client_handshake_done(&attempt, 12, too_long, sizeof too_long);
+    EXPECT(was_asked("close ") && asked_code == QV_TRANSPORT_PARAMETER_ERROR);
+    EXPECT(attempt.end_mark == QV_OPEN);
+    /* Who takes it for missing completes. */
+    EXPECT(qv_outcome_without_information(&attempt, 12) == QV_OK);
+}
+
+/* The stack's own parameters are at fault: nothing is sent, and nothing is closed. */
+static void faults_of_the_stack(void)
+{
+    static const uint8_t repeated[] = {0x01, 0, 0x40, 0x01, 0};
+    static const uint8_t cut[] = {0x01, 2, 0x67};
+    static uint8_t many[3 * QV_MAX_PARAMETERS], too_long[QV_MAX_SEQUENCE - 2];
+    struct qv_attempt attempt = attempting();
+    size_t i;
+
+    stack = repeated;
+    stack_size = sizeof repeated;
+    first_flight(&attempt);
+    EXPECT(was_asked("fault "));
+    stack = cut;
+    stack_size = sizeof cut;
+    first_flight(&attempt);
+    EXPECT(was_asked("fault "));
+
+    /* 64 parameters without Version Information cannot take it; with it among them they can. */
+    for (i = 0; i < QV_MAX_PARAMETERS; i++) {
+        many[3 * i] = 0x40;
+        many[3 * i + 1] = (uint8_t)(64 + i);
+    }
+    stack = many;
+    stack_size = sizeof many;
+    first_flight(&attempt);
+    server_goes_on(VERSION_1);
+    EXPECT(was_asked("fault fault "));
+    many[1] = 0x11;
+    first_flight(&attempt);
+    EXPECT(was_asked("flight ") && sent[0] == 0x11);
+    many[1] = 64;
+    stack_size = sizeof many - 3;
+    first_flight(&attempt);
+    EXPECT(was_asked("flight ") && sent_len == sizeof many - 3 + 2 + 8);
+
+    /* A value of its own length, and no room for ours behind it. */
+    memset(too_long, 0xff, sizeof too_long);
+    too_long[0] = 0x01;
+    too_long[1] = 0x40 + (sizeof too_long - 3) / 256;
+    too_long[2] = (sizeof too_long - 3) % 256;
+    stack = too_long;
+    stack_size = sizeof too_long;
+    first_flight(&attempt);
+    EXPECT(was_asked("fault "));
+    stack = plain;
+    stack_size = sizeof plain;
+
+    /* In C a writer's number and a reader's are the same: the kind of call tells them apart. */
+    EXPECT(qv_close_code(QV_IDENTIFIER_REPEATED, QV_CALL_READING) == QV_TRANSPORT_PARAMETER_ERROR);
+    EXPECT(qv_close_code(QV_IDENTIFIER_REPEATED, QV_CALL_WRITING) == QV_CLOSE_NONE);
+}
+
+/* A buffer of so many bytes as old sequence and value have, and 3 more. */
+static void room_to_write(void)
+{
+    static uint8_t value[QV_MAX_SEQUENCE + 1], buffer[3 * QV_MAX_SEQUENCE];
+    static const uint8_t ours[] = {0x80, 0, 0, 0x11, 0xc0, 0, 0, 0, 0, 0, 0, 1, 0xff};
+    size_t value_len, count = 0;
+
+    for (value_len = 0; value_len < sizeof value; value_len++) {
+        uint32_t refusal = qv_write_parameters(shortest, sizeof shortest, value, value_len, buffer,
+                                               sizeof shortest + value_len + 3, &count);
+        size_t more = value_len < 64 ? 2 : 3;
+
+        EXPECT(refusal == (sizeof shortest + more + value_len > QV_MAX_SEQUENCE
+                               ? QV_SEQUENCE_TOO_LONG
+                               : QV_OK));
+        EXPECT(refusal != QV_OK || count == sizeof shortest + more + value_len);
+        EXPECT(qv_write_parameters(ours, sizeof ours, value, value_len, buffer, QV_MAX_SEQUENCE,
+                                   &count) != QV_NO_ROOM_TO_WRITE);
+    }
+    EXPECT(qv_write_parameters(shortest, sizeof shortest, value, 64, buffer,
+                               sizeof shortest + 64 + 2, &count) == QV_NO_ROOM_TO_WRITE);
+
+    /* The new sequence can be shorter than the old one: the count tells. */
+    EXPECT(qv_write_parameters(ours, sizeof ours, value, 1, buffer, 3, &count) == QV_OK);
+    EXPECT(count == 3 && buffer[0] == 0x11 && buffer[1] == 1 && buffer[2] == 0);
+}
+
+/* What the page warns of: not the data of the extension as TLS has it. */
+static void not_the_sequence(void)
+{
+    static const uint32_t ten[] = {10}, twelve[] = {12};
+    struct information information = {QV_MISSING, NULL, 0};
+    struct qv_attempt attempt = attempting();
+    uint8_t bytes[4 + 64], flight_in_12[64];
+    uint32_t decision = 7;
+    size_t count, cut, flight_len;
+
+    /* A part: an 81, or what can be read of it, without the rest. */
+    count = parameters_of(bytes, 12, twelve, 1);
+    for (cut = 0; cut < count; cut++) {
+        uint32_t refusal;
+
+        information.presence = 7;
+        refusal = find_information(bytes, cut, &information);
+        EXPECT(refusal == (cut == 0 || cut == 4 || cut == 10 ? QV_OK : QV_RUNS_PAST_THE_END));
+        EXPECT(information.presence == (refusal == QV_OK ? QV_MISSING : 7));
+    }
+
+    /* With the extension's type and length in front. */
+    memmove(bytes + 4, bytes, count);
+    bytes[0] = 0;
+    bytes[1] = 0x39;
+    bytes[2] = 0;
+    bytes[3] = (uint8_t)count;
+    EXPECT(find_information(bytes, 4 + count, &information) == QV_RUNS_PAST_THE_END);
+
+    /* Appended by hand where it is there already. */
+    count = parameters_of(bytes, 12, twelve, 1);
+    bytes[count] = 0x11;
+    bytes[count + 1] = 0;
+    EXPECT(find_information(bytes, count + 2, &information) == QV_IDENTIFIER_REPEATED);
+
+    /* After an act: the sequence of the earlier flight is a 51, the new one is not. */
+    first_flight(&attempt);
+    EXPECT(was_asked("flight ") && asked_version == 12 && was_sent(12, twelve, 1));
+    flight_len = sent_len;
+    memcpy(flight_in_12, sent, sent_len);
+    negotiation_with(&attempt, 10, source, destination);
+    EXPECT(was_asked("keep flight ") && asked_version == 10 && was_sent(10, ten, 1));
+    EXPECT(find_information(flight_in_12, flight_len, &information) == QV_OK);
+    EXPECT(qv_server_choice(ten, 1, ten, 1, NULL, 0, 10, information.presence, information.bytes,
+                            information.len, &decision) == QV_CHOSEN_NOT_RECEIVED);
+    EXPECT(find_information(sent, sent_len, &information) == QV_OK);
+    EXPECT(qv_server_choice(ten, 1, ten, 1, NULL, 0, 10, information.presence, information.bytes,
+                            information.len, &decision) == QV_OK && decision == 10);
+
+    /* Written into the sequence of the earlier flight, it takes the place of the old one. */
+    EXPECT(qv_write_parameters(flight_in_12, flight_len, information.bytes, information.len, bytes,
+                               sizeof bytes, &count) == QV_OK);
+    EXPECT(count == sent_len && memcmp(bytes, sent, count) == 0);
 }
 
 int main(void)
@@ -457,6 +729,11 @@ int main(void)
     client_faults();
     server();
     accepted_through_a_pair_but_not_offered();
+    client_and_server();
+    missing_is_neither_empty_nor_refused();
+    faults_of_the_stack();
+    room_to_write();
+    not_the_sequence();
     puts("c advice ok");
     return 0;
 }

@@ -12,7 +12,7 @@
  *  - NULL is allowed exactly where the length given with it is 0;
  *  - a record is used by one thread at a time. There is no global state: distinct records on
  *    distinct threads are fine;
- *  - there is room on the stack: 18 KiB for an event and for a choice from bytes, 70 KiB for
+ *  - there is room on the stack: 18 KiB for an event and for a choice from bytes, 42 KiB for
  *    qv_read_parameters and qv_write_parameters where a sequence has over 64 parameters, 2 KiB for
  *    any other call;
  *  - x86-64 Linux.

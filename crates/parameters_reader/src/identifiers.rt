@@ -1,6 +1,6 @@
 // Whether an identifier occurs twice. Few are compared each with each. Of many, those below SMALL are marked in an array,
 // and the others are sorted, so that no choice of identifiers makes the search slow.
-ghost use mathlib.Core.Bool.{false};
+ghost use mathlib.Core.Bool.{false, cond};
 ghost use mathlib.Core.Path.{_≡_};
 ghost use Prim.Native.Nat.{_≤_, _<_};
 ghost use lib.ListN.{length, replicate, take};
@@ -49,16 +49,31 @@ fn among(ids: &[u64], id: u64) -> bool
     false
 }
 
-// Whether an identifier of a sequence occurs twice.
+// Whether an identifier of a sequence occurs twice. (With two calls of `side_repeats` the compiler leaves it a function of
+// its own, so that only a sequence with too many parameters takes the stack of the searches.)
 pub(crate) fn many_repeat(sequence: &[u8]) -> bool
     requires short { ⌜ length (now sequence) ≤ maxSequence ⌝ }
     requires read { ⌜ runsPast (fieldsOf (now sequence)) ≡ false ⌝ }
     ensures { λ r. ⌜ r ≡ repeats (idsOf (fieldsIn (fieldsOf (now (sequence .entry))))) ⌝ }
 {
-    if small_repeat(sequence) {
+    if side_repeats(sequence, false) {
         return true;
     }
-    large_repeat(sequence)
+    side_repeats(sequence, true)
+}
+
+// Whether one below SMALL does, or, if `above`, one of the others.
+fn side_repeats(sequence: &[u8], above: bool) -> bool
+    requires short { ⌜ length (now sequence) ≤ maxSequence ⌝ }
+    requires read { ⌜ runsPast (fieldsOf (now sequence)) ≡ false ⌝ }
+    ensures { λ r. ⌜ r ≡ repeats (cond above
+        (fromOn large (idsOf (fieldsIn (fieldsOf (now (sequence .entry))))))
+        (below large (idsOf (fieldsIn (fieldsOf (now (sequence .entry))))))) ⌝ }
+{
+    if above {
+        return large_repeat(sequence);
+    }
+    small_repeat(sequence)
 }
 
 // Whether one below SMALL does.

@@ -59,6 +59,19 @@ pub fn information(sender: Sender, chosen: u32, available: &[u32]) -> Vec<u8> {
     bytes
 }
 
+/// A stack's transport parameters: max_idle_timeout, and a reserved one (27) whose identifier and
+/// length are not in the shortest form.
+pub const STACK: [u8; 10] = [0x01, 2, 0x67, 0x10, 0x40, 0x1b, 0x40, 2, 0xaa, 0xbb];
+/// The same in the shortest form.
+pub const SHORTEST: [u8; 8] = [0x01, 2, 0x67, 0x10, 0x1b, 2, 0xaa, 0xbb];
+
+/// The same, and Version Information behind them.
+pub fn carrying(information: &[u8]) -> Vec<u8> {
+    assert!(information.len() < 64);
+    let ours = [0x11, information.len() as u8];
+    [&SHORTEST[..], &ours, information].concat()
+}
+
 /// A datagram of a first flight, as the page has a client send it: padded to the fewest bytes that
 /// are answered.
 pub fn flight(version: u32, rest: &[u8]) -> Vec<u8> {

@@ -2,18 +2,19 @@
 
 mod configurations;
 mod link;
+mod parameters;
 mod words;
 
 /// The page's client, and tests that run it.
 mod client {
     include!("page/client.rs");
-    mod run;
+    pub mod run;
 }
 
 /// The page's server, and tests that run it.
 mod server {
     include!("page/server.rs");
-    mod run;
+    pub mod run;
 }
 
 /// What is run here is what the page shows.

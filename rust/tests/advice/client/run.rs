@@ -1,7 +1,7 @@
 //! The page's client, run.
 
 use super::*;
-use crate::link::{information, long_form, negotiation, DESTINATION, SOURCE};
+use crate::link::{carrying, information, long_form, negotiation, DESTINATION, SOURCE, STACK};
 
 /// What the client asked of the layers around it.
 #[derive(Debug, PartialEq)]
@@ -13,17 +13,30 @@ enum Asked {
     Close(u64),
     GiveUp,
     Connected(u32),
+    Fault(String),
 }
 
-#[derive(Default)]
 struct Around {
+    stack: Vec<u8>,
     asked: Vec<Asked>,
 }
 
+impl Default for Around {
+    fn default() -> Around {
+        Around {
+            stack: STACK.to_vec(),
+            asked: Vec::new(),
+        }
+    }
+}
+
 impl Layers for Around {
-    fn send_first_flight(&mut self, version: u32, information: &[u8]) {
+    fn stack_parameters(&self) -> Vec<u8> {
+        self.stack.clone()
+    }
+    fn send_first_flight(&mut self, version: u32, parameters: &[u8]) {
         self.asked
-            .push(Asked::FirstFlight(version, information.to_vec()));
+            .push(Asked::FirstFlight(version, parameters.to_vec()));
     }
     fn remove_protection(&mut self, version: Option<u32>, _: &[u8]) {
         self.asked.push(Asked::RemoveProtection(version));
@@ -44,6 +57,9 @@ impl Layers for Around {
     fn connected(&mut self, version: u32) {
         self.asked.push(Asked::Connected(version));
     }
+    fn fault(&mut self, text: &str) {
+        self.asked.push(Asked::Fault(text.to_string()));
+    }
 }
 
 impl Client<Around> {
@@ -57,8 +73,24 @@ impl Client<Around> {
 fn started() -> Client<Around> {
     let mut client = Client::start(&DESTINATION, &SOURCE, Around::default()).unwrap();
     let sent = information(Sender::Client, VERSION_1, &[VERSION_2, VERSION_1]);
+    let sent = carrying(&sent);
     assert_eq!(client.asked(), [Asked::FirstFlight(VERSION_1, sent)]);
     client
+}
+
+/// The page's client against a server that takes the version of its first flight and its transport
+/// parameters, and answers the version in use and its own. The version that it has completed with.
+pub(crate) fn against(server: impl FnOnce(u32, &[u8]) -> (u32, Vec<u8>)) -> Option<u32> {
+    let mut client = Client::start(&DESTINATION, &SOURCE, Around::default()).unwrap();
+    let (in_use, answer) = match &client.asked()[..] {
+        [Asked::FirstFlight(version, parameters)] => server(*version, parameters),
+        asked => panic!("{:?}", asked),
+    };
+    client.handshake_done(in_use, &answer);
+    match client.asked()[..] {
+        [Asked::Connected(version)] => Some(version),
+        _ => None,
+    }
 }
 
 /// The same client with another table, no pairs, and 12 as Original Version.
@@ -75,7 +107,7 @@ fn led_to_10() -> Client<Around> {
     let mut client = attempting(&[14, 12, 10]);
     let packet = negotiation(12, &[10]).unwrap();
     client.datagram(&packet);
-    let sent = information(Sender::Client, 10, &[10]);
+    let sent = carrying(&information(Sender::Client, 10, &[10]));
     assert_eq!(
         client.asked(),
         [Asked::KeepPacket(packet), Asked::FirstFlight(10, sent)]
@@ -104,10 +136,10 @@ fn completes_in_a_compatible_version() {
         ]
     );
     let answer = information(Sender::Server, VERSION_2, &[VERSION_2, VERSION_1]);
-    client.handshake_done(VERSION_2, Some(&answer));
+    client.handshake_done(VERSION_2, &carrying(&answer));
     assert_eq!(client.asked(), [Asked::Connected(VERSION_2)]);
     // Once more: too late, and nothing is closed.
-    client.handshake_done(VERSION_2, None);
+    client.handshake_done(VERSION_2, &STACK);
     assert_eq!(client.asked(), []);
 }
 
@@ -127,7 +159,7 @@ fn drops_what_it_did_not_ask_for() {
 fn long_header_is_not_the_last_word() {
     let mut client = started();
     let answer = information(Sender::Server, VERSION_2, &[VERSION_2, VERSION_1]);
-    client.handshake_done(VERSION_1, Some(&answer));
+    client.handshake_done(VERSION_1, &carrying(&answer));
     assert_eq!(client.asked(), [Asked::Close(0x11)]);
 }
 
@@ -173,7 +205,7 @@ fn downgrades_are_reported() {
     for available in [&[][..], &[14, 12, 10]] {
         let mut client = led_to_10();
         let answer = information(Sender::Server, 10, available);
-        client.handshake_done(10, Some(&answer));
+        client.handshake_done(10, &carrying(&answer));
         let report = Asked::Report {
             in_use: 10,
             attempted: 10,
@@ -186,11 +218,96 @@ fn downgrades_are_reported() {
 #[test]
 fn other_refusals_are_closed() {
     let mut client = led_to_10();
-    client.handshake_done(10, None);
+    client.handshake_done(10, &STACK);
     assert_eq!(client.asked(), [Asked::Close(0x11)]);
     let mut client = led_to_10();
-    client.handshake_done(10, Some(&[0, 0, 0]));
+    client.handshake_done(10, &carrying(&[0, 0, 0]));
     assert_eq!(client.asked(), [Asked::Close(0x08)]);
+}
+
+/// Given, missing and refused are three answers. An empty value is given: a 31.
+#[test]
+fn empty_and_refused_are_not_missing() {
+    let repeated = [&carrying(&[0, 0, 0, 12])[..], &[0x40, 0x11, 0]].concat();
+    let cut = &carrying(&[0, 0, 0, 12])[..13];
+    let many: Vec<u8> = (64..=128).flat_map(|id| [0x40, id, 0]).collect();
+    for parameters in [&carrying(&[])[..], &repeated, cut, &many, &[0; 16_385]] {
+        let mut client = attempting(&[14, 12, 10]);
+        client.handshake_done(12, parameters);
+        assert_eq!(client.asked(), [Asked::Close(0x08)]);
+    }
+    // Truly missing: there, an empty sequence, and what a stack hands over that has looked itself.
+    for parameters in [&STACK[..], &[]] {
+        let mut client = attempting(&[14, 12, 10]);
+        client.handshake_done(12, parameters);
+        assert_eq!(client.asked(), [Asked::Connected(12)]);
+    }
+    let mut client = attempting(&[14, 12, 10]);
+    client.outcome(12, None);
+    assert_eq!(client.asked(), [Asked::Connected(12)]);
+    // Missing, and handed over as empty: an honest server is closed on.
+    let mut client = attempting(&[14, 12, 10]);
+    client.outcome(12, Some(&[]));
+    assert_eq!(client.asked(), [Asked::Close(0x08)]);
+}
+
+/// A sequence that is refused leaves the attempt open: it is to be forgotten. Who goes on with
+/// "missing" completes.
+#[test]
+fn refused_parameters_are_no_outcome() {
+    let mut client = attempting(&[14, 12, 10]);
+    client.handshake_done(12, &[0x11, 0, 0x11, 0]);
+    assert_eq!(client.asked(), [Asked::Close(0x08)]);
+    assert_eq!(client.attempt.end(), quic_version::End::Open);
+    client.outcome(12, None);
+    assert_eq!(client.asked(), [Asked::Connected(12)]);
+}
+
+/// The stack's own parameters are at fault: nothing is sent, and nothing is closed.
+#[test]
+fn faults_of_the_stack() {
+    let many: Vec<u8> = (64..128).flat_map(|id| [0x40, id, 0]).collect();
+    let long = [&[0x01, 0x7f, 0xf0][..], &[0xff; 0x3ff0]].concat();
+    let cases: [(&[u8], WriteRefusal); 4] = [
+        (&long, WriteRefusal::SequenceTooLong),
+        (&[0x01, 2, 0x67], WriteRefusal::RunsPastTheEnd),
+        (&[0x01, 0, 0x40, 0x01, 0], WriteRefusal::IdentifierRepeated),
+        (&many, WriteRefusal::TooManyParameters),
+    ];
+    for (stack, refusal) in cases {
+        let layers = Around {
+            stack: stack.to_vec(),
+            ..Around::default()
+        };
+        let mut client = Client::start(&DESTINATION, &SOURCE, layers).unwrap();
+        assert_eq!(client.asked(), [Asked::Fault(refusal.to_string())]);
+    }
+}
+
+/// After an act Version Information is another: the sequence of the earlier flight is a 51.
+#[test]
+fn sequence_of_an_earlier_flight() {
+    let mut client = attempting(&[14, 12, 10]);
+    client.first_flight();
+    let earlier = match &client.asked()[..] {
+        [Asked::FirstFlight(12, parameters)] => parameters.clone(),
+        asked => panic!("{:?}", asked),
+    };
+    client.datagram(&negotiation(12, &[10]).unwrap());
+    let now = match &client.asked()[..] {
+        [_, Asked::FirstFlight(10, parameters)] => parameters.clone(),
+        asked => panic!("{:?}", asked),
+    };
+    let choice = |parameters| {
+        let found = find_version_information(parameters).unwrap();
+        quic_version::server_choice(&[10], &[10], &[], 10, found)
+    };
+    assert_eq!(choice(&earlier), Err(Refusal::ChosenNotReceived));
+    assert_eq!(choice(&now), Ok(quic_version::Decision::Use(10)));
+    // The stack may hand the earlier sequence over: what stands there is replaced.
+    client.layers.stack = earlier;
+    client.first_flight();
+    assert_eq!(client.asked(), [Asked::FirstFlight(10, now)]);
 }
 
 /// After a 75: a new attempt with the whole table and new IDs ignores a late copy of the packet and

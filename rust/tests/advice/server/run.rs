@@ -1,7 +1,7 @@
 //! The page's server, run.
 
 use super::*;
-use crate::link::{flight, information, long_form, DESTINATION, SOURCE};
+use crate::link::{carrying, flight, information, long_form, DESTINATION, SOURCE, STACK};
 use quic_version::{versions, MIN_ANSWERED_DATAGRAM};
 
 /// What the server asked of the layers around it.
@@ -13,10 +13,9 @@ enum Asked {
     Close(u64),
 }
 
-/// A handshake layer whose parameters are a count of bytes and then so many bytes. The first of
-/// them tells whether the rest is Version Information (1) or there is none (0). The rest of a
-/// datagram is a part of them, its length before it, and padding. A part that begins with 0xee
-/// cannot be read.
+/// A handshake layer that has a count of bytes, and then so many bytes of transport parameters. The
+/// rest of a datagram is a part of that, its length before it, and padding. A part that begins with
+/// 0xee cannot be read.
 #[derive(Default)]
 struct Around {
     flight: Vec<u8>,
@@ -48,15 +47,18 @@ impl Layers for Around {
         self.flight.extend(part);
         match self.flight.split_first() {
             Some((count, held)) if held.len() == usize::from(*count) => {
-                let information = held[1..].to_vec();
-                Flight::Whole(Some(information).filter(|_| held[0] == 1))
+                Flight::Whole(held.to_vec())
             }
             _ => Flight::Incomplete,
         }
     }
-    fn go_on(&mut self, id: &[u8], version: u32, information: &[u8]) {
+    fn stack_parameters(&self, id: &[u8]) -> Vec<u8> {
+        assert_eq!(id, DESTINATION);
+        STACK.to_vec()
+    }
+    fn go_on(&mut self, id: &[u8], version: u32, parameters: &[u8]) {
         self.connections.push(id.to_vec());
-        self.asked.push(Asked::GoOn(version, information.to_vec()));
+        self.asked.push(Asked::GoOn(version, parameters.to_vec()));
     }
     fn send_datagram(&mut self, datagram: &[u8]) {
         self.asked.push(Asked::Send(datagram.to_vec()));
@@ -72,12 +74,17 @@ impl Layers for Around {
     }
 }
 
-/// Parameters with this Version Information, as the handshake layer above reads them.
+/// A sequence of transport parameters, as the handshake layer above reads it.
+fn counted(sequence: &[u8]) -> Vec<u8> {
+    [&[sequence.len() as u8][..], sequence].concat()
+}
+
+/// One with this Version Information, or without any.
 fn parameters(information: Option<&[u8]>) -> Vec<u8> {
-    let held = information.unwrap_or_default();
-    let mut bytes = vec![1 + held.len() as u8, u8::from(information.is_some())];
-    bytes.extend(held);
-    bytes
+    match information {
+        Some(bytes) => counted(&carrying(bytes)),
+        None => counted(&STACK),
+    }
 }
 
 /// What a server asks for after the datagrams of a first flight, with these parts of the parameters.
@@ -92,7 +99,16 @@ fn after(version: u32, parts: &[&[u8]]) -> Vec<Asked> {
 
 fn goes_on_in(version: u32) -> [Asked; 1] {
     let answer = information(Sender::Server, version, &TABLE);
-    [Asked::GoOn(version, answer)]
+    [Asked::GoOn(version, carrying(&answer))]
+}
+
+/// The page's server after a first flight in a version, with these transport parameters: the version
+/// that it goes on in, and its own.
+pub(crate) fn goes_on_with(version: u32, parameters: &[u8]) -> (u32, Vec<u8>) {
+    match after(version, &[&counted(parameters)]).pop() {
+        Some(Asked::GoOn(version, answer)) => (version, answer),
+        asked => panic!("{:?}", asked),
+    }
 }
 
 #[test]
@@ -138,6 +154,41 @@ fn incomplete_is_not_missing() {
         let (first, second) = whole.split_at(2);
         assert_eq!(after(VERSION_1, &[first, second]), [Asked::Close(code)]);
     }
+}
+
+/// Given, missing and refused are three answers. An empty value is given: a 31, not the version of
+/// the flight.
+#[test]
+fn empty_and_refused_are_not_missing() {
+    let repeated: &[u8] = &[0x01, 0, 0x40, 0x01, 0];
+    let many: Vec<u8> = (0..65).flat_map(|id| [0x40, id, 0]).collect();
+    for sequence in [&carrying(&[])[..], repeated, &[0x01, 2, 0x67], &many] {
+        assert_eq!(
+            after(VERSION_1, &[&counted(sequence)]),
+            [Asked::Close(0x08)]
+        );
+    }
+    assert_eq!(after(VERSION_1, &[&counted(&[])]), goes_on_in(VERSION_1));
+    let empty = server_choice(&TABLE, &TABLE, &PAIRS, VERSION_1, Some(&[]));
+    assert_eq!(empty, Err(quic_version::Refusal::InformationTooShort));
+}
+
+/// The stack's own parameters are at fault: nothing is written.
+#[test]
+fn faults_of_the_stack() {
+    let many: Vec<u8> = (64..128).flat_map(|id| [0x40, id, 0]).collect();
+    assert_eq!(
+        answer(&many, VERSION_1),
+        Err(WriteRefusal::TooManyParameters)
+    );
+    assert_eq!(
+        answer(&[0x01, 0, 0x01, 0], VERSION_1),
+        Err(WriteRefusal::IdentifierRepeated)
+    );
+    // One place less, and there is room for Version Information.
+    let (version, ours) = (VERSION_1, information(Sender::Server, VERSION_1, &TABLE));
+    let written = answer(&many[3..], version).unwrap();
+    assert_eq!(written, [&many[3..], &[0x11, 12], &ours].concat());
 }
 
 /// A datagram that cannot be read is dropped; what can be read of the flight still counts.
