@@ -3,14 +3,14 @@ use Prim.Native.Nat.{ℕ, zero, suc, _<_, _≤_, zero-le}
 use mathlib.Core.Bool.{Bool, true, false, cond}
 use mathlib.Core.List.{List, _++_}
 use mathlib.Core.Path.{_≡_, refl}
-use native.Mathlib.Nat.{le-refl, le-trans, not-le-of-lt, le-of-suc-le-suc}
+use native.Mathlib.Nat.{le-refl}
 use native.Mathlib.Omega.{arith}
 use borrow.Author.Tests.{ltb-true, ltb-false}
 use lib.Dec.{ltb, lit<, lit≤}
 use lib.ListN.{length}
 use lib.Pow.{pow-mono}
 use Rattle.refusals.specs.Reply.{Reply.answered}
-use Rattle.integers.specs.Integers.{Found, readInteger, widthOf, heldBelow, shortest, shortestWidth, shortestBytes}
+use Rattle.integers.specs.Integers.{readInteger, widthOf, heldBelow, shortest, shortestWidth, shortestBytes}
 use Rattle.integers.specs.Limits.{maxInteger}
 use Rattle.integers.proofs.RoundTrip.{length-integer, one-le-width, read-back, width-top}
 

@@ -10,7 +10,7 @@ use native.Mathlib.Numerals.{add-one}
 use native.Mathlib.Omega.{arith}
 use borrow.Author.Tests.{le-ltb, ltb-false}
 use lib.Dec.{lit<, ltb}
-use lib.ListN.{length, take, drop, getD, set, length-append}
+use lib.ListN.{length, take, getD, set, length-append}
 use lib.Pow.{pow-pos, pow-mono}
 use lib.Seq.{take-at, slice, slice-cons, take-suc, append-snoc, set-at, length-take-le}
 use Rattle.refusals.specs.Reply.{Reply.answered}

@@ -3,9 +3,9 @@
 use Prim.Native.Nat.{ℕ, _-_, _^_}
 use mathlib.Core.List.{List, [], _∷_}
 use mathlib.Core.Path.{_≡_, refl}
-use Rattle.refusals.specs.Reply.{Reply, Reply.answered, refuse}
+use Rattle.refusals.specs.Reply.{Reply.answered, refuse}
 use Rattle.refusals.specs.declared.Call.the-variants.{Reading, Writing}
-use Rattle.integers.specs.Integers.{Found, fromBytes, heldBelow, integerBytes, integerToWrite, lowBytes, readInteger, shortest, shortestBytes, shortestWidth, valueAt, widthOf}
+use Rattle.integers.specs.Integers.{fromBytes, heldBelow, integerBytes, integerToWrite, lowBytes, readInteger, shortest, shortestBytes, shortestWidth, valueAt, widthOf}
 
 -- So many bytes are read as this integer
 abbrev reads : List ℕ → ℕ → ℕ → Type 0

@@ -8,13 +8,12 @@ use lib.ListN.{drop, getD}
 use Rattle.refusals.specs.Reply.{Reply.answered}
 use Rattle.lists.specs.Wire.{allBelow}
 use Rattle.lists.proofs.Entries.{allBelow-cons, allBelow-drop}
-use Rattle.integers.specs.Integers.{Found}
 use Rattle.integers.specs.Limits.{maxInteger}
 use Rattle.integers.proofs.Held.{read-told, told-least}
 use Rattle.integers.proofs.Least.{wide-from}
 use Rattle.integers.proofs.RoundTrip.{read-within}
 use Rattle.parameters.specs.Sequence.{Field, fieldAt}
-use Rattle.parameters.proofs.Walk.{Parts, field-parts}
+use Rattle.parameters.proofs.Walk.{field-parts}
 
 pub bytes-below : (s : List ℕ) → ((i : ℕ) → getD s i 0 < 256) → allBelow 256 s ≡ true
 unfolding allBelow

@@ -1,11 +1,11 @@
 -- One parameter at a place: what the integer reader answers there, and what that makes of the parameter.
 use Prim.Native.Nat.{ℕ, _+_, _-_, _<_, _≤_}
 use mathlib.Core.List.{List}
-use mathlib.Core.Path.{_≡_, refl, sym, ap, _∙_}
+use mathlib.Core.Path.{_≡_, sym, ap, _∙_}
 use native.Mathlib.Omega.{arith}
 use borrow.Author.Tests.{le-ltb, lt-ltb}
 use lib.ListN.{length, take, drop, drop-of-length-le, length-drop}
-use Rattle.refusals.specs.Reply.{Reply, Reply.answered, refuse}
+use Rattle.refusals.specs.Reply.{Reply.answered, refuse}
 use Rattle.refusals.specs.declared.Call.the-variants.{Reading}
 use Rattle.refusals.specs.declared.Refusal.{Refusal}
 use Rattle.versions.proofs.Lists.{part-rest}
@@ -13,7 +13,7 @@ use Rattle.integers.specs.Integers.{Found, readInteger, integerReply, widthOf}
 use Rattle.integers.specs.declared.Integer.{Integer}
 use Rattle.integers.specs.declared.Integer.the-variants.{Refused, Read}
 use Rattle.integers.proofs.RoundTrip.{read-within}
-use Rattle.parameters.specs.Sequence.{Field, behindId, fieldAt}
+use Rattle.parameters.specs.Sequence.{behindId, fieldAt}
 
 -- What a call of the integer reader told, lent a sequence from a place on
 module _ (r : Integer) (s : List ℕ) (at : ℕ) (told : integerReply r ≡ readInteger (take (length s - at) (drop at s))) where

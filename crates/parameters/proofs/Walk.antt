@@ -1,6 +1,6 @@
 -- A walk over a sequence, parameter by parameter: those passed, and the rest, make up the whole.
 use Prim.Native.Nat.{ℕ, zero, suc, _+_, _-_, _*_, _<_, _≤_, zero-le}
-use mathlib.Core.Bool.{Bool, true, false}
+use mathlib.Core.Bool.{Bool, true, false, true≢false}
 use mathlib.Core.List.{List, [], _∷_, _++_, append-nil, append-assoc}
 use mathlib.Core.Path.{_≡_, refl, sym, ap, _∙_, subst}
 use native.Mathlib.Nat.{le-of-eq, not-le-of-lt, sub-zero}
@@ -18,6 +18,7 @@ use Rattle.refusals.proofs.Rules.{answered-injective}
 use Rattle.integers.specs.Integers.{Found, readInteger}
 use Rattle.integers.proofs.RoundTrip.{read-within}
 use Rattle.lists.specs.declared.Span.{Span}
+use Rattle.parameters.specs.Reading.{fieldsIn, runsPast}
 use Rattle.parameters.specs.Sequence.{Field, behindId, behindLength, fieldAt, fieldsFrom, fieldsOf, followedBy, parameterReply, thenFrom, withId}
 use Rattle.parameters.specs.declared.Parameter.{Parameter}
 use Rattle.parameters.specs.declared.Parameter.the-variants.{Refused, Read}
@@ -164,6 +165,23 @@ module _ (s : List ℕ) (at : ℕ) (passed : List Field) (g : Going s at passed)
       none-left : (t : ℕ) → fieldsFrom t s at ≡ answered []
       none-left zero = refl
       none-left (suc t) = rw (le-leb (length s) at h)
+
+-- Those passed are the front of all, where all are read
+pub record Front (passed whole : List Field) : Type 0 where
+  pub rest : List Field
+  pub is : whole ≡ passed ++ rest
+
+module _ (s : List ℕ) (at : ℕ) (passed : List Field) (g : Going s at passed) (read : runsPast (fieldsOf s) ≡ false) where
+  pub front-of : Front passed (fieldsIn (fieldsOf s))
+  front-of = go (fieldsFrom (g .turns) s at) (g .rest)
+    where
+      go : (r : Reply (List Field)) → joined passed r ≡ fieldsOf s → Front passed (fieldsIn (fieldsOf s))
+      go (refused n c) e = absurd (true≢false (ap runsPast e ∙ read))
+      go (answered fs) e = record { rest = fs; is = sym (ap fieldsIn e) }
+
+  -- and none of them is refused
+  pub never-lost : (n : ℕ) → at < length s → fieldAt s at ≡ refuse Reading n → ⊥
+  never-lost n h e = true≢false (sym (ap runsPast (stopped s at passed g n h e)) ∙ read)
 
 -- What a call of `read_parameter` told
 module _ (r : Parameter) (s : List ℕ) (at : ℕ) (told : parameterReply r ≡ fieldAt s at) where

@@ -7,7 +7,6 @@ use Rattle.refusals.specs.Reply.{Reply.answered, refuse}
 use Rattle.refusals.specs.declared.Call.the-variants.{Reading, Writing}
 use Rattle.versions.specs.Table.{elem}
 use Rattle.integers.specs.Integers.{fromBytes, heldBelow, integerBytes, lowBytes, readInteger, shortest, shortestBytes, valueAt, widthOf}
-use Rattle.lists.specs.declared.Span.{Span}
 use Rattle.parameters.specs.Reading.{carried, readParameters}
 use Rattle.parameters.specs.Sequence.{behindId, fieldAt, fieldsFrom, fieldsOf, idsOf, repeats}
 use Rattle.parameters.specs.Writing.{carrying, contentsIn, holdsOurs, parametersToWrite, renewed, sequenceBytes}

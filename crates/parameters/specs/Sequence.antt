@@ -1,7 +1,7 @@
 -- A sequence of transport parameters: RFC 9000 section 18, document 02, C-11: "identifier, length, value, the first two
 -- as variable-length integers".
 use Prim.Native.Nat.{ℕ, zero, suc, _+_, _-_}
-use mathlib.Core.Bool.{Bool, true, false, cond, _||_}
+use mathlib.Core.Bool.{Bool, false, cond, _||_}
 use mathlib.Core.List.{List, [], _∷_}
 use lib.Dec.{leb, ltb}
 use lib.ListN.{length, take, drop}

@@ -1,7 +1,7 @@
 -- The writer of a sequence: document 02, C-11: "The writer takes the old sequence and our value's bytes; the other values
 -- and the order stay, and ours replaces the old one or goes last".
 use Prim.Native.Nat.{ℕ}
-use mathlib.Core.Bool.{Bool, true, false, cond, _||_}
+use mathlib.Core.Bool.{Bool, false, cond, _||_}
 use mathlib.Core.List.{List, [], _∷_, _++_}
 use lib.Dec.{eqb, ltb}
 use lib.ListN.{length}

@@ -3,7 +3,7 @@ use Prim.Native.Nat.{ℕ, _<_, _≤_}
 use mathlib.Core.Bool.{true, false}
 use mathlib.Core.List.{List}
 use mathlib.Core.Option.{Option}
-use mathlib.Core.Path.{_≡_, refl, sym, ap, _∙_}
+use mathlib.Core.Path.{_≡_, refl}
 use native.Mathlib.Omega.{arith}
 use borrow.Author.Tests.{le-ltb, lt-ltb}
 use lib.ListN.{length, length-take, take}
@@ -13,7 +13,7 @@ use Rattle.lists.specs.declared.Span.{Span}
 use Rattle.parameters.specs.Limits.{maxParameters, maxSequence}
 use Rattle.parameters.specs.Reading.{carried, fieldsIn, readParameters, runsPast}
 use Rattle.parameters.specs.Sequence.{Field, fieldsOf, idsOf, repeats}
-use Rattle.parameters_reader.specs.Walking.{Noted, Passage, Passage.past, Passage.through, passageOf}
+use Rattle.parameters_reader.specs.Walking.{Noted, Passage.past, Passage.through, passageOf}
 
 pub too-long : (s : List ℕ) → maxSequence < length s → refuse Reading 80 ≡ readParameters s
 unfolding readParameters

@@ -1,6 +1,6 @@
 -- What the two searches of identifiers hold at each place of the walk.
 use Prim.Native.Nat.{ℕ, _+_, _*_, _<_, _≤_, zero-le}
-use mathlib.Core.Bool.{Bool, true, false, cond, _||_, or-true, or-false, false≢true, true≢false}
+use mathlib.Core.Bool.{Bool, true, false, cond, _||_, or-true, or-false, false≢true}
 use mathlib.Core.List.{List, [], _∷_, _++_, append-nil}
 use mathlib.Core.Path.{_≡_, refl, sym, ap, _∙_}
 use native.Mathlib.Numerals.{add-one}
@@ -9,30 +9,16 @@ use borrow.Author.Tests.{eqb-false, eqb-true, le-ltb, lt-ltb, ltb-false, ltb-tru
 use lib.Dec.{eqb, ltb}
 use lib.ListN.{getD, getD-replicate, length, length-append, length-replicate, length-set, replicate, set, take}
 use lib.Seq.{getD-set-other, getD-set-same, take-suc-set}
-use Rattle.refusals.specs.Reply.{Reply, Reply.refused, Reply.answered, refuse}
-use Rattle.refusals.specs.declared.Call.the-variants.{Reading}
+use Rattle.refusals.specs.Reply.{Reply.answered}
 use Rattle.versions.specs.Table.{elem}
 use Rattle.versions.proofs.Lists.{elem-append}
 use Rattle.parameters.specs.Limits.{maxSequence}
 use Rattle.parameters.specs.Reading.{fieldsIn, runsPast}
-use Rattle.parameters.specs.Sequence.{Field, fieldAt, fieldsFrom, fieldsOf, idsOf, repeats}
-use Rattle.parameters.proofs.Walk.{Going, Inside, begun, field-inside, joined, stepped}
+use Rattle.parameters.specs.Sequence.{Field, fieldAt, fieldsOf, idsOf, repeats}
+use Rattle.parameters.proofs.Walk.{Front, Going, Inside, begun, field-inside, front-of, stepped}
 use Rattle.parameters_reader.specs.Sizes.{below, fromOn, isSeen, large, maxLarge, seeing}
 use Rattle.parameters_reader.proofs.Passing.{ids-append}
 use Rattle.parameters_reader.proofs.Twice.{below-append, below-large, below-small, elem-below, from-append, repeats-front, repeats-snoc}
-
--- Those passed are the front of all, where all are read
-pub record Front (passed whole : List Field) : Type 0 where
-  pub rest : List Field
-  pub is : whole ≡ passed ++ rest
-
-pub front-of : (s : List ℕ) (at : ℕ) (passed : List Field) → Going s at passed → runsPast (fieldsOf s) ≡ false
-    → Front passed (fieldsIn (fieldsOf s))
-front-of s at passed g h = go (fieldsFrom (g .turns) s at) (g .rest)
-  where
-    go : (r : Reply (List Field)) → joined passed r ≡ fieldsOf s → Front passed (fieldsIn (fieldsOf s))
-    go (refused n c) e = absurd (true≢false (ap runsPast e ∙ h))
-    go (answered fs) e = record { rest = fs; is = sym (ap fieldsIn e) }
 
 -- The identifiers passed and one more
 ids-snoc : (passed : List Field) (f : Field) → idsOf (passed ++ (f ∷ [])) ≡ idsOf passed ++ (f .id ∷ [])
@@ -224,7 +210,3 @@ module _ (s numbers : List ℕ) (at count : ℕ) (f : Field) (g : Gathering s nu
     where
       same : fromOn large (idsOf (g .passed ++ (f ∷ []))) ≡ fromOn large (idsOf (g .passed))
       same = ids-on ∙ rw (lt-ltb (f .id) large size) (append-nil (fromOn large (idsOf (g .passed))))
-
--- A sequence that is read is not refused
-pub not-stopped : (s : List ℕ) (n : ℕ) → runsPast (fieldsOf s) ≡ false → fieldsOf s ≡ refuse Reading n → ⊥
-not-stopped s n h e = true≢false (sym (ap runsPast e) ∙ h)

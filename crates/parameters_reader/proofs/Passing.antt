@@ -97,6 +97,7 @@ begins-next s ours at passed f b h e = by-place (eqb ours (length s)) refl
           given = rw (still-none, eq-eqb (length s) (length s) refl) refl;
           lies = nothing-there s ∙ sym still-none;
         }
+
     by-place : (missing : Bool) → eqb ours (length s) ≡ missing
         → Begins s (cond missing (cond (eqb (f .id) versionInformation) at (length s)) ours) (passed ++ (f ∷ []))
     by-place true m = here-or-not (b .given ∙ ap not m) (eqb (f .id) versionInformation) refl

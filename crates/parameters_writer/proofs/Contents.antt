@@ -8,16 +8,15 @@ use native.Mathlib.Omega.{arith}
 use borrow.Author.Tests.{eq-eqb, eqb-true, ne-eqb}
 use lib.Dec.{eqb}
 use lib.ListN.{length, length-append}
-use Rattle.refusals.specs.Reply.{Reply, Reply.refused, Reply.answered}
 use Rattle.integers.specs.Integers.{shortestBytes, shortestWidth}
 use Rattle.integers.proofs.Least.{length-shortest}
 use Rattle.lists.proofs.Places.{length-part}
 use Rattle.parameters.specs.Limits.{maxSequence, versionInformation}
 use Rattle.parameters.specs.Reading.{fieldsIn, runsPast}
-use Rattle.parameters.specs.Sequence.{Field, fieldsFrom, fieldsOf}
+use Rattle.parameters.specs.Sequence.{Field, fieldsOf}
 use Rattle.parameters.specs.Writing.{Content, carrying, contentBytes, contentOf, contentsIn, holdsOurs, isOurs, ours, renewed, sequenceBytes}
 use Rattle.parameters.proofs.Carrying.{renewed-missing}
-use Rattle.parameters.proofs.Walk.{Going, joined}
+use Rattle.parameters.proofs.Walk.{Going, front-of}
 use Rattle.parameters_writer.specs.Renewing.{newBytes, renewedBytes, renewedOne}
 
 -- ---- one behind the other
@@ -109,15 +108,11 @@ length-renewed v (p ∷ ps) = ap suc (length-renewed v ps)
 -- The parameters passed take no more bytes than all of them
 pub passed-within : (s v : List ℕ) (at : ℕ) (passed : List Field) → Going s at passed → runsPast (fieldsOf s) ≡ false
     → length (renewedBytes s v passed) ≤ length (renewedBytes s v (fieldsIn (fieldsOf s)))
-passed-within s v at passed g reads = go (fieldsFrom (g .turns) s at) (g .rest)
-  where
-    go : (r : Reply (List Field)) → joined passed r ≡ fieldsOf s
-        → length (renewedBytes s v passed) ≤ length (renewedBytes s v (fieldsIn (fieldsOf s)))
-    go (refused n c) e = absurd (true≢false (ap runsPast e ∙ reads))
-    go (answered fs) e =
-        let whole : renewedBytes s v (fieldsIn (fieldsOf s)) ≡ renewedBytes s v passed ++ renewedBytes s v fs =
-        ap (λ (r : Reply (List Field)). renewedBytes s v (fieldsIn r)) (sym e) ∙ bytes-append s v passed fs in
-        omega (arith, ap length whole, length-append (renewedBytes s v passed) (renewedBytes s v fs))
+passed-within s v at passed g reads =
+    let front = front-of s at passed g reads in
+    let whole : renewedBytes s v (fieldsIn (fieldsOf s)) ≡ renewedBytes s v passed ++ renewedBytes s v (front .rest) =
+    ap (renewedBytes s v) (front .is) ∙ bytes-append s v passed (front .rest) in
+    omega (arith, ap length whole, length-append (renewedBytes s v passed) (renewedBytes s v (front .rest)))
 
 -- ---- ours
 

@@ -1,29 +1,22 @@
 -- The two walks over the old sequence, the one that measures and the one that writes: what each holds at a place, and a turn.
 use Prim.Native.Nat.{ℕ, _+_, _*_, _<_, _≤_, zero-le}
-use mathlib.Core.Bool.{false, true≢false}
 use mathlib.Core.List.{List, [], _∷_, _++_}
 use mathlib.Core.Path.{_≡_, refl, sym, ap, ap₂, _∙_}
 use native.Mathlib.Nat.{le-trans}
 use native.Mathlib.Omega.{arith}
 use lib.ListN.{length, length-append}
-use Rattle.refusals.specs.Reply.{Reply.answered, refuse}
+use Rattle.refusals.specs.Reply.{Reply.answered}
 use Rattle.refusals.specs.Written.{leaves}
-use Rattle.refusals.specs.declared.Call.the-variants.{Reading}
 use Rattle.integers.proofs.Least.{shortest-width-top}
 use Rattle.lists.proofs.Places.{partFrom, putFrom}
 use Rattle.parameters.specs.Limits.{maxSequence}
-use Rattle.parameters.specs.Reading.{fieldsIn, runsPast}
+use Rattle.parameters.specs.Reading.{fieldsIn}
 use Rattle.parameters.specs.Sequence.{Field, fieldAt, fieldsOf}
 use Rattle.parameters.specs.Writing.{contentsIn, renewed, sequenceBytes}
-use Rattle.parameters.proofs.Walk.{Going, begun, ended, field-inside, stepped, stopped}
+use Rattle.parameters.proofs.Walk.{Going, begun, ended, field-inside, stepped}
 use Rattle.parameters_writer.specs.Renewing.{Readable, maxOne, newBytes, renewedBytes}
 use Rattle.parameters_writer.proofs.Contents.{bytes-snoc, length-short, newLength, new-size, passed-within}
 use Rattle.parameters_writer.proofs.Runs.{Begins, begins-length, begins-more, begins-none}
-
--- Where the sequence is read, none of its parameters is refused
-pub never-lost : (s : List ℕ) (at : ℕ) (passed : List Field) → Going s at passed → runsPast (fieldsOf s) ≡ false
-    → (n : ℕ) → at < length s → fieldAt s at ≡ refuse Reading n → ⊥
-never-lost s at passed g reads n h e = true≢false (sym (ap runsPast (stopped s at passed g n h e)) ∙ reads)
 
 -- The size of those passed. They take no more than so many bytes in the new sequence for each byte of the old one.
 pub record Measured (s v : List ℕ) (bytes count at : ℕ) : Type 0 where

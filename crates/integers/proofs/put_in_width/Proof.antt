@@ -1,10 +1,10 @@
 -- `put_in_width`: from the last byte to the first; what is written stands between the buffer's own bytes.
-use mathlib.Core.Path.{_≡_, refl, sym, ap, _∙_, subst}
-use mathlib.Core.List.{List, [], _∷_, _++_}
+use mathlib.Core.Path.{_≡_, sym, ap, _∙_, subst}
+use mathlib.Core.List.{List, _∷_, _++_}
 use Prim.Native.Nat.{ℕ, _+_, _-_, _*_, _/_, _%_, _^_, _<_, _≤_}
 use native.Mathlib.Omega.{arith}
 use native.Mathlib.Nat.{sub-self, div-one, mod-eq-of-lt, le-trans, le-refl}
-use lib.ListN.{length, take, drop, set, length-set, take-append-drop}
+use lib.ListN.{length, take, drop, set, take-append-drop}
 use borrow.Author.Needs.{needs}
 use Rattle.integers.specs.Integers.{lowBytes, integerBytes, heldBelow, widthOf}
 use Rattle.integers.proofs.RoundTrip.{one-le-width, push-low, low-step, rest-step, small-top}
@@ -75,7 +75,14 @@ loop-again c =
     let w = start .args .width in
     let v = start .args .value in
     let i = loop .i in
-    (search needs, search needs, search needs, stepped b (loop .buffer) w v i (loop .rest) (loop .inv .0) (loop .inv .1) (start .pre .3) (loop .inv .3) (loop .inv .4), ap (λ (x : ℕ). x / 256) (loop .inv .4) ∙ rest-step w i v (loop .inv .0) (loop .inv .1))
+    let one = loop .inv .0 in
+    let within = loop .inv .1 in (
+      search needs,
+      search needs,
+      search needs,
+      stepped b (loop .buffer) w v i (loop .rest) one within (start .pre .3) (loop .inv .3) (loop .inv .4),
+      ap (λ (x : ℕ). x / 256) (loop .inv .4) ∙ rest-step w i v one within,
+    )
 
 mul-buffer : tie.Need-mul-buffer Inv-loop μ-loop
 mul-buffer c = search needs
@@ -97,7 +104,9 @@ returns c =
     let loop = c .before .loop in
     let start = c .before .before in
     let one : loop .i ≡ 1 = omega (arith, loop .inv .0, c .loop-test .left) in
-    ended (start .args .buffer .now) (loop .buffer) (start .args .width) (start .args .form) (start .args .value) (loop .i) (loop .rest) one (start .pre .1) (start .pre .2) (start .pre .3) (loop .inv .3) (loop .inv .4)
+    let args = start .args in
+    ended (args .buffer .now) (loop .buffer) (args .width) (args .form) (args .value) (loop .i) (loop .rest) one (start .pre .1)
+    (start .pre .2) (start .pre .3) (loop .inv .3) (loop .inv .4)
 
 pub put-in-width-spec : {M : Type 1} → statement M
 put-in-width-spec =

@@ -1,11 +1,11 @@
 -- `read_integer`: the width that the first byte tells, and the integer in it.
 use Prim.Native.Nat.{ℕ, _/_, _<_, _≤_}
-use mathlib.Core.Path.{_≡_, refl, sym, subst}
+use mathlib.Core.Path.{refl, sym, subst}
 use native.Mathlib.Omega.{arith}
 use borrow.Author.Needs.{needs}
 use borrow.Author.Tests.{lt-ltb, le-ltb}
 use lib.ListN.{length, getD}
-use Rattle.integers.specs.Integers.{readInteger, integerReply, widthOf, widthAt}
+use Rattle.integers.specs.Integers.{readInteger, widthAt}
 use Rattle.integers.proofs.RoundTrip.{one-le-width, width-top}
 use Rattle.integers.proofs.read_integer.Statement.{statement}
 use Rattle.integers.proofs.read_integer.Tie as tie

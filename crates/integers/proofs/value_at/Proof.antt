@@ -1,13 +1,12 @@
 -- `value_at`: the bytes passed make a number, of which and of the bytes left the integer is made.
-use mathlib.Core.Path.{_≡_, refl, sym, ap, _∙_, subst}
-use Prim.Native.Nat.{ℕ, _+_, _-_, _*_, _%_, _^_, _<_, _≤_}
+use mathlib.Core.Path.{_≡_, sym, ap, _∙_}
+use Prim.Native.Nat.{ℕ, _+_, _-_, _*_, _%_, _<_, _≤_}
 use native.Mathlib.Omega.{arith}
-use lib.ListN.{length, getD}
 use lib.Seq.{slice, slice-empty}
 use borrow.Author.Needs.{needs}
 use native.Mathlib.Nat.{mod-lt}
 use lib.Dec.{lit<}
-use mathlib.Core.List.{List, [], _∷_}
+use mathlib.Core.List.{[]}
 use Rattle.integers.specs.Integers.{fromBytes, valueAt}
 use Rattle.integers.proofs.RoundTrip.{bound, bound-top, bound-step, next-byte}
 use Rattle.integers.proofs.value_at.Statement.{statement}

@@ -8,7 +8,7 @@ use denote.Ref.{now}
 use borrow.Author.Tests.{lt-ltb, le-ltb}
 use lib.ListN.{length, drop}
 use Rattle.refusals.specs.Reply.{Reply.answered}
-use Rattle.integers.specs.Integers.{heldBelow, integerBytes, integerToWrite, shortest, shortestBytes, shortestWidth, widthOf}
+use Rattle.integers.specs.Integers.{heldBelow, integerBytes, integerToWrite, shortestBytes, shortestWidth, widthOf}
 use Rattle.integers.specs.Limits.{maxInteger}
 use Rattle.integers.proofs.Least.{length-shortest, shortest-holds, shortest-lt}
 use Rattle.integers.proofs.write_integer.Statement.{statement}

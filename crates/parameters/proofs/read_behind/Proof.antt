@@ -1,12 +1,12 @@
 -- `read_behind`: the length is read, and the value has to lie within the sequence.
-use Prim.Native.Nat.{ℕ, _+_, _≤_}
+use Prim.Native.Nat.{_+_, _≤_}
 use mathlib.Core.Path.{_≡_}
 use native.Mathlib.Omega.{arith}
 use borrow.Author.Needs.{needs}
 use denote.Ref.{now}
 use lib.ListN.{length, drop}
 use Rattle.refusals.specs.Reply.{Reply.answered}
-use Rattle.integers.specs.Integers.{Found, readInteger}
+use Rattle.integers.specs.Integers.{readInteger}
 use Rattle.parameters.proofs.Places.{told-refused, told-read, ends-within, no-length, no-room, with-room}
 use Rattle.parameters.proofs.read_behind.Statement.{statement}
 use Rattle.parameters.proofs.read_behind.Tie as tie

@@ -1,12 +1,12 @@
 -- `read_parameter`: the identifier is read, then what is behind it.
-use Prim.Native.Nat.{ℕ, _+_, _≤_}
+use Prim.Native.Nat.{_+_, _≤_}
 use mathlib.Core.Path.{_≡_, _∙_}
 use native.Mathlib.Omega.{arith}
 use borrow.Author.Needs.{needs}
 use denote.Ref.{now}
 use lib.ListN.{length, drop}
 use Rattle.refusals.specs.Reply.{Reply.answered}
-use Rattle.integers.specs.Integers.{Found, readInteger}
+use Rattle.integers.specs.Integers.{readInteger}
 use Rattle.parameters.proofs.Places.{nothing-left, told-refused, told-read, ends-within, no-id, with-id}
 use Rattle.parameters.proofs.read_parameter.Statement.{statement}
 use Rattle.parameters.proofs.read_parameter.Tie as tie

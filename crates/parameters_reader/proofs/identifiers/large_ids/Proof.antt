@@ -8,8 +8,8 @@ use lib.ListN.{length}
 use Rattle.refusals.specs.Reply.{Reply.answered}
 use Rattle.parameters.specs.Sequence.{Field, fieldAt}
 use Rattle.parameters.proofs.Bytes.{field-sized}
-use Rattle.parameters.proofs.Walk.{ended, field-inside, stopped, told-field, told-lost}
-use Rattle.parameters_reader.proofs.Marks.{Gathering, gather-large, gather-place, gather-small, gathering-starts, not-stopped}
+use Rattle.parameters.proofs.Walk.{ended, field-inside, never-lost, told-field, told-lost}
+use Rattle.parameters_reader.proofs.Marks.{Gathering, gather-large, gather-place, gather-small, gathering-starts}
 use Rattle.parameters_reader.proofs.identifiers.large_ids.Statement.{statement}
 use Rattle.parameters_reader.proofs.identifiers.large_ids.Tie as tie
 
@@ -59,8 +59,7 @@ returns c =
     let g = at .loop .inv in
     let s = now (entry .args .sequence) in
     let lost = told-lost (call .result) s (at .loop .at) (call .ensures) _ (c .enum-told .given .1) in
-    let all = stopped s (at .loop .at) (g .passed) (g .going) _ (c .before .before .before .loop-test .taken) lost in
-    absurd (not-stopped s _ (entry .pre .1 .0) all)
+    absurd (never-lost s (at .loop .at) (g .passed) (g .going) (entry .pre .1 .0) _ (c .before .before .before .loop-test .taken) lost)
 
 -- A large one takes five bytes, so there is a place for it
 five : (k : tie.After-one Inv-loop μ-loop) → 16384 ≤ the-field k .id → at-loop k .loop .at + 5 ≤ the-field k .value .start

@@ -1,5 +1,4 @@
 -- `large_repeat`: the sort answers for the large identifiers, which stand at the front of the numbers.
-use Prim.Native.Nat.{_≤_}
 use mathlib.Core.Path.{_≡_, sym, ap, _∙_}
 use native.Mathlib.Omega.{arith}
 use borrow.Author.Needs.{needs}

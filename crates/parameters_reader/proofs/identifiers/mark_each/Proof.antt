@@ -9,9 +9,9 @@ use denote.Ref.{now}
 use lib.ListN.{length, length-replicate}
 use Rattle.refusals.specs.Reply.{Reply.answered}
 use Rattle.parameters.specs.Sequence.{Field, fieldAt}
-use Rattle.parameters.proofs.Walk.{ended, field-inside, stopped, told-field, told-lost}
+use Rattle.parameters.proofs.Walk.{ended, field-inside, never-lost, told-field, told-lost}
 use Rattle.parameters_reader.specs.Sizes.{large}
-use Rattle.parameters_reader.proofs.Marks.{Marking, marking-starts, not-stopped, seen-new, seen-twice}
+use Rattle.parameters_reader.proofs.Marks.{Marking, marking-starts, seen-new, seen-twice}
 use Rattle.parameters_reader.proofs.identifiers.mark_each.Statement.{statement}
 use Rattle.parameters_reader.proofs.identifiers.mark_each.Tie as tie
 
@@ -61,8 +61,7 @@ returns c =
     let m = at .loop .inv in
     let s = now (entry .args .sequence) in
     let lost = told-lost (call .result) s (at .loop .at) (call .ensures) _ (c .enum-told .given .1) in
-    let all = stopped s (at .loop .at) (m .passed) (m .going) _ (c .before .before .before .loop-test .taken) lost in
-    absurd (not-stopped s _ (entry .pre .0) all)
+    absurd (never-lost s (at .loop .at) (m .passed) (m .going) (entry .pre .0) _ (c .before .before .before .loop-test .taken) lost)
 
 see-requires : tie.Need-see-requires Inv-loop μ-loop
 see-requires c κs = at-loop (c .before .before) .loop .inv .room

@@ -9,10 +9,10 @@ use lib.ListN.{length, length-append}
 use Rattle.refusals.specs.Reply.{Reply.answered}
 use Rattle.parameters.specs.Sequence.{Field, fieldAt}
 use Rattle.parameters.proofs.Bytes.{field-sized}
-use Rattle.parameters.proofs.Walk.{field-inside, told-field, told-lost}
+use Rattle.parameters.proofs.Walk.{field-inside, never-lost, told-field, told-lost}
 use Rattle.parameters_writer.specs.Renewing.{newBytes, renewedBytes}
 use Rattle.parameters_writer.proofs.Runs.{begins-inside, begins-room}
-use Rattle.parameters_writer.proofs.Turns.{Renewing, never-lost, next-room, renewing-all, renewing-length, renewing-next, renewing-none}
+use Rattle.parameters_writer.proofs.Turns.{Renewing, next-room, renewing-all, renewing-length, renewing-next, renewing-none}
 use Rattle.parameters_writer.proofs.putting.put_renewed.Statement.{statement}
 use Rattle.parameters_writer.proofs.putting.put_renewed.Tie as tie
 

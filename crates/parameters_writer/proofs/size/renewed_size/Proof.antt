@@ -8,9 +8,9 @@ use lib.ListN.{length}
 use Rattle.refusals.specs.Reply.{Reply.answered}
 use Rattle.integers.specs.Integers.{shortestWidth}
 use Rattle.parameters.specs.Sequence.{Field, fieldAt}
-use Rattle.parameters.proofs.Walk.{Inside, field-inside, told-field, told-lost}
+use Rattle.parameters.proofs.Walk.{Inside, field-inside, never-lost, told-field, told-lost}
 use Rattle.parameters_writer.proofs.Contents.{length-short, new-size}
-use Rattle.parameters_writer.proofs.Turns.{Measured, measured-all, measured-next, measured-none, never-lost}
+use Rattle.parameters_writer.proofs.Turns.{Measured, measured-all, measured-next, measured-none}
 use Rattle.parameters_writer.proofs.size.renewed_size.Statement.{statement}
 use Rattle.parameters_writer.proofs.size.renewed_size.Tie as tie
 
