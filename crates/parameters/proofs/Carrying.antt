@@ -17,7 +17,7 @@ use Rattle.parameters.specs.Writing.{Content, contentsIn, isOurs, ours, 
 use Rattle.parameters.specs.Laws.{others, placed, withOurs}
 
 -- Where not one of two holds, neither does
-neither : (a b : Bool) → (a || b) ≡ false → (a ≡ false) × (b ≡ false)
+pub neither : (a b : Bool) → (a || b) ≡ false → (a ≡ false) × (b ≡ false)
 neither true b e = absurd (true≢false e)
 neither false b e = (refl, e)
 
@@ -41,7 +41,7 @@ ids-placed at [] = refl
 ids-placed at (p ∷ ps) = ap (λ (l : List ℕ). p .id ∷ l) (ids-placed _ ps)
 
 -- Ours is there where its identifier is
-holds-elem : (ps : List Content) → holdsOurs ps ≡ elem versionInformation (idsIn ps)
+pub holds-elem : (ps : List Content) → holdsOurs ps ≡ elem versionInformation (idsIn ps)
 unfolding idsIn holdsOurs elem
 holds-elem [] = refl
 holds-elem (p ∷ ps) = ap (λ (b : Bool). isOurs p || b) (holds-elem ps)
@@ -63,7 +63,7 @@ ids-last value [] = refl
 ids-last value (p ∷ ps) = ap (λ (l : List ℕ). p .id ∷ l) (ids-last value ps)
 
 -- Carrying ours is one of two things, as ours was there or was missing
-by-holding : (P : List Content → Type 0) (value : List ℕ) (ps : List Content)
+pub by-holding : (P : List Content → Type 0) (value : List ℕ) (ps : List Content)
     → (holdsOurs ps ≡ true → P (renewed value ps)) → (holdsOurs ps ≡ false → P (ps ++ (ours value ∷ []))) → P (carrying value ps)
 unfolding carrying
 by-holding P value ps there missing = go (holdsOurs ps) there missing

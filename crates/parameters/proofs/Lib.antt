@@ -7,6 +7,7 @@ pub mod Kept
 pub mod Places
 pub mod Rewritten
 pub mod Rising
+pub mod Room
 pub mod Walk
 pub mod Worked
 pub mod Written
