@@ -14,7 +14,8 @@
  *    distinct threads are fine;
  *  - there is room on the stack: 18 KiB for an event and for a choice from bytes, 42 KiB for
  *    qv_read_parameters and qv_write_parameters where a sequence has over 64 parameters, 2 KiB for
- *    any other call;
+ *    any other call; and 4 KiB more where the C library's memset and memcpy are bound at their
+ *    first call;
  *  - x86-64 Linux.
  *
  * C99. Link with libquic_version.a, which scripts/install puts beside this header, or with
