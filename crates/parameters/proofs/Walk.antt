@@ -3,6 +3,7 @@ use Prim.Native.Nat.{ℕ, zero, suc, _+_, _-_, _*_, _<_, _≤_, zero-le}
 use mathlib.Core.Bool.{Bool, true, false, true≢false}
 use mathlib.Core.List.{List, [], _∷_, _++_, append-nil, append-assoc}
 use mathlib.Core.Path.{_≡_, refl, sym, ap, _∙_, subst}
+use native.Mathlib.Decide.{decLt}
 use native.Mathlib.Nat.{le-of-eq, not-le-of-lt, sub-zero}
 use native.Mathlib.Omega.{arith}
 use borrow.Author.Tests.{le-leb, lt-leb, ltb-false}
@@ -120,9 +121,35 @@ one-more : (passed : List Field) (f : Field) (r : Reply (List Field)) → joined
 one-more passed f (refused n c) = refl
 one-more passed f (answered fs) = ap answered (sym (append-assoc passed (f ∷ []) fs))
 
+at-the-end : (t : ℕ) (s : List ℕ) (at : ℕ) → length s ≤ at → fieldsFrom t s at ≡ answered []
+unfolding fieldsFrom
+at-the-end zero s at h = refl
+at-the-end (suc t) s at h = rw (le-leb (length s) at h)
+
 turn : (t : ℕ) (s : List ℕ) (at : ℕ) → at < length s → fieldsFrom (suc t) s at ≡ thenFrom (fieldsFrom t s) (fieldAt s at)
 unfolding fieldsFrom
 turn t s at h = rw (lt-leb (length s) at h)
+
+-- One turn for each byte that is left is enough: more of them change nothing
+pub enough-turns : (s : List ℕ) (t u at : ℕ) → length s - at ≤ t → length s - at ≤ u → fieldsFrom t s at ≡ fieldsFrom u s at
+unfolding fieldsFrom
+enough-turns s zero u at h k = sym (at-the-end u s at (omega (arith, h)))
+enough-turns s (suc t) zero at h k = at-the-end (suc t) s at (omega (arith, k))
+enough-turns s (suc t) (suc u) at h k = go (λ end. enough-turns s t u end) (decLt at (length s))
+  where
+    Same : Type 0
+    Same = (end : ℕ) → length s - end ≤ t → length s - end ≤ u → fieldsFrom t s end ≡ fieldsFrom u s end
+
+    next : Same → (r : Reply Field) → fieldAt s at ≡ r → at < length s → thenFrom (fieldsFrom t s) r ≡ thenFrom (fieldsFrom u s) r
+    next same (refused n c) e l = refl
+    next same (answered f) e l =
+        let i = field-inside s at f e in
+        let past : at + 2 ≤ f .value .end = omega (arith, i .begins, i .in-order) in
+        ap (followedBy f) (same (f .value .end) (omega (arith, h, l, past)) (omega (arith, k, l, past)))
+
+    go : Same → Dec (at < length s) → fieldsFrom (suc t) s at ≡ fieldsFrom (suc u) s at
+    go same (yes l) = turn t s at l ∙ next same (fieldAt s at) refl l ∙ sym (turn u s at l)
+    go same (no l) = at-the-end (suc t) s at (omega arith) ∙ sym (at-the-end (suc u) s at (omega arith))
 
 module _ (s : List ℕ) (at : ℕ) (passed : List Field) (g : Going s at passed) where
   -- A turn on a parameter that is read
@@ -157,14 +184,9 @@ module _ (s : List ℕ) (at : ℕ) (passed : List Field) (g : Going s at passed)
 
   -- The end: those passed are all
   pub ended : length s ≤ at → fieldsOf s ≡ answered passed
-  unfolding fieldsFrom
   ended h =
-      let none : fieldsFrom (g .turns) s at ≡ answered [] = none-left (g .turns) in
+      let none : fieldsFrom (g .turns) s at ≡ answered [] = at-the-end (g .turns) s at h in
       sym (g .rest) ∙ ap (joined passed) none ∙ ap answered (append-nil passed)
-    where
-      none-left : (t : ℕ) → fieldsFrom t s at ≡ answered []
-      none-left zero = refl
-      none-left (suc t) = rw (le-leb (length s) at h)
 
 -- Those passed are the front of all, where all are read
 pub record Front (passed whole : List Field) : Type 0 where

@@ -56,7 +56,7 @@ thenFrom rest (refused n c) = refused n c
 thenFrom rest (answered f) = followedBy f (rest (f .value .end))
 
 -- The parameters from a place to the end, in so many turns at the most; one turn for each byte is enough, since each
--- parameter takes two or more
+-- parameter takes two or more, and further turns change nothing (`enough-turns`, proofs/Walk.antt)
 unfoldable pub fieldsFrom : ℕ → List ℕ → ℕ → Reply (List Field)
 fieldsFrom zero s at = answered []
 fieldsFrom (suc turns) s at = cond (leb (length s) at) (answered []) (thenFrom (fieldsFrom turns s) (fieldAt s at))
