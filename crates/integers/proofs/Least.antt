@@ -75,7 +75,7 @@ pub shortest-back : (v : ℕ) (rest : List ℕ) → v ≤ maxInteger
 unfolding shortestBytes shortestWidth
 shortest-back v rest h = read-back (shortest v) v rest (shortest-holds v h)
 
--- From 16,384 on an integer takes four bytes or more
-pub wide-from : (v : ℕ) → 16384 ≤ v → 4 ≤ shortestWidth v
+-- What two bytes do not hold takes four or more
+pub wide-from : (v : ℕ) → heldBelow 1 ≤ v → 4 ≤ shortestWidth v
 unfolding shortestWidth heldBelow widthOf
 wide-from v h = by-form (λ x. 4 ≤ widthOf x) v (λ l. omega arith) (λ _ l. omega arith) (λ _ _. lit≤ tt) (λ _. lit≤ tt)

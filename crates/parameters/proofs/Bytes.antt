@@ -8,6 +8,7 @@ use lib.ListN.{drop, getD}
 use Rattle.refusals.specs.Reply.{Reply.answered}
 use Rattle.lists.specs.Wire.{allBelow}
 use Rattle.lists.proofs.Entries.{allBelow-cons, allBelow-drop}
+use Rattle.integers.specs.Integers.{heldBelow}
 use Rattle.integers.specs.Limits.{maxInteger}
 use Rattle.integers.proofs.Held.{read-told, told-least}
 use Rattle.integers.proofs.Least.{wide-from}
@@ -23,7 +24,7 @@ bytes-below (x ∷ xs) h = allBelow-cons 256 x xs (h 0) (bytes-below xs (λ i. h
 -- Of a parameter that is read: its identifier can be written, and a large one takes four bytes, its length another one
 pub record Sized (at : ℕ) (f : Field) : Type 0 where
   pub can-be-written : f .id ≤ maxInteger
-  pub takes : 16384 ≤ f .id → at + 5 ≤ f .value .start
+  pub takes : heldBelow 1 ≤ f .id → at + 5 ≤ f .value .start
 
 pub field-sized : (s : List ℕ) (at : ℕ) (f : Field) → ((i : ℕ) → getD s i 0 < 256) → fieldAt s at ≡ answered f → Sized at f
 field-sized s at f below e =

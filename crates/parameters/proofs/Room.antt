@@ -69,13 +69,14 @@ added-there value (p ∷ ps) h once =
         let old = one-more p ps in
         record { at-most = omega (arith, new, old, rest .at-most); at-least = omega (arith, new, rest .at-least) }
 
-two-bytes : (n : ℕ) → n < 16384 → shortestWidth n ≤ 2
-unfolding heldBelow widthOf
+two-bytes : (n : ℕ) → n < heldBelow 1 → shortestWidth n ≤ 2
+unfolding widthOf
 two-bytes n h = least-width 1 n h
 
 -- What is written has at most three bytes more than the old sequence and the value together
 pub written-at-most : (old value : List ℕ) (room : ℕ) (new : List ℕ) → allBelow 256 old ≡ true
     → parametersToWrite old value room ≡ answered new → length new ≤ length old + length value + 3
+unfolding heldBelow widthOf
 written-at-most old value room new below e =
     let w = write-kept old value room new e in
     let kept = w .0 in
@@ -85,7 +86,7 @@ written-at-most old value room new below e =
     (λ h. added-there value (contentsOf old) h (once-of kept)) (λ h. added-last value (contentsOf old)) in
     let shorter : length (shortestForm old) ≤ length old = shortest-shorter old below _ (read-answers old kept) in
     let size = ours-size value in
-    let small : length value < 16384 = omega (arith, size, added .at-least, fits .short) in
+    let small : length value < heldBelow 1 = omega (arith, size, added .at-least, fits .short) in
     let width = two-bytes (length value) small in
     let same = ap length (w .2) in
     omega (arith, same, added .at-most, shorter, size, width)

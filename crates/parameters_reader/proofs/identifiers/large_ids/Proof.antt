@@ -6,9 +6,11 @@ use borrow.Author.Needs.{needs}
 use denote.Ref.{now}
 use lib.ListN.{length}
 use Rattle.refusals.specs.Reply.{Reply.answered}
+use Rattle.integers.specs.Integers.{heldBelow, widthOf}
 use Rattle.parameters.specs.Sequence.{Field, fieldAt}
 use Rattle.parameters.proofs.Bytes.{field-sized}
 use Rattle.parameters.proofs.Walk.{ended, field-inside, never-lost, told-field, told-lost}
+use Rattle.parameters_reader.specs.Sizes.{large}
 use Rattle.parameters_reader.proofs.Marks.{Gathering, gather-large, gather-place, gather-small, gathering-starts}
 use Rattle.parameters_reader.proofs.identifiers.large_ids.Statement.{statement}
 use Rattle.parameters_reader.proofs.identifiers.large_ids.Tie as tie
@@ -62,11 +64,12 @@ returns c =
     absurd (never-lost s (at .loop .at) (g .passed) (g .going) (entry .pre .1 .0) _ (c .before .before .before .loop-test .taken) lost)
 
 -- A large one takes five bytes, so there is a place for it
-five : (k : tie.After-one Inv-loop μ-loop) → 16384 ≤ the-field k .id → at-loop k .loop .at + 5 ≤ the-field k .value .start
+five : (k : tie.After-one Inv-loop μ-loop) → large ≤ the-field k .id → at-loop k .loop .at + 5 ≤ the-field k .value .start
+unfolding heldBelow widthOf
 five k h =
     field-sized _ _ (the-field k) (λ i. at-loop k .before .before .shared-slice-known .given i .fits) (field-read k) .takes h
 
-place : (k : tie.After-one Inv-loop μ-loop) → 16384 ≤ the-field k .id → at-loop k .loop .count < length (at-loop k .loop .numbers)
+place : (k : tie.After-one Inv-loop μ-loop) → large ≤ the-field k .id → at-loop k .loop .count < length (at-loop k .loop .numbers)
 place k h =
     let at = at-loop k in
     gather-place _ _ _ _ (the-field k) (at .loop .inv) (k .before .before .before .loop-test .taken) (field-read k) (five k h)
