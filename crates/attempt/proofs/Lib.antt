@@ -1,3 +1,4 @@
+pub mod Barred
 pub mod Chosen
 pub mod Completing
 pub mod Demand3

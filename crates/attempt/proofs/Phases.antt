@@ -41,7 +41,10 @@ opened-reads x =
       destination = take-append-seam (x .destination) _;
       source = take-append-seam (x .source) _;
       original = refl;
-      own = λ v h. rw (t, word-of-row (x .table) (x .table) (x .pairs) _ v h) (members-word (x .table) (x .pairs) v);
+      own =
+          λ v h.
+              rw (t, word-of-row (x .table) (x .table) (x .pairs) (x .barred) _ v h)
+                  (members-word (x .table) (x .pairs) (x .barred) v);
     }
 
 -- what an event may change leaves it

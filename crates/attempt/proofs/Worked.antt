@@ -50,9 +50,12 @@ ourDestination = 0xaa ∷ 0xbb ∷ []
 ourSource : List ℕ
 ourSource = 0xcc ∷ []
 
--- A start with a table, pairs and an Original Version
+-- A start with a table, pairs, barred pairs and an Original Version; and one with nothing barred
+barring : List ℕ → List (List ℕ) → List (List ℕ) → ℕ → Input
+barring t ps bs v = inputOf t ps bs v ourDestination ourSource
+
 start : List ℕ → List (List ℕ) → ℕ → Input
-start t ps v = record { table = t; pairs = ps; original = v; destination = ourDestination; source = ourSource }
+start t ps v = barring t ps [] v
 
 -- A Version Negotiation packet with matching connection IDs that lists these versions
 packet : List ℕ → Handed
@@ -157,14 +160,14 @@ refusals =
 
 -- Each case computes to what document 01 says
 P1-to-P12 : map computed cases ≡ map expected cases
-unfolding computed expected ourDestination ourSource start packet outcome missing answers attempt three four cases
+unfolding computed expected ourDestination ourSource barring start packet outcome missing answers attempt three four cases
     closeOf codeIn table choose preferred paired pairKeepsRule eachPairKeepsRule pairsKeepRule elem entriesKeepRule
     tableKeepsRule reserved usable entries listBytes isReadableNegotiation padded ownOf run members wordWhere wordOf wordFor
     rowsFor mayBeAnswered startOf opened blank stepOf onDatagram onProcessed onOutcome same
 P1-to-P12 = refl
 
 mixed-answers : answers (startOf (start three [] 12) .attempt) mixed ≡ refusals
-unfolding mixed refusals computed expected ourDestination ourSource start packet outcome missing answers attempt three
+unfolding mixed refusals computed expected ourDestination ourSource barring start packet outcome missing answers attempt three
     four cases closeOf codeIn table choose preferred paired pairKeepsRule eachPairKeepsRule pairsKeepRule elem
     entriesKeepRule tableKeepsRule reserved usable entries listBytes isReadableNegotiation padded ownOf run members
     wordWhere wordOf wordFor rowsFor mayBeAnswered startOf opened blank stepOf onDatagram onProcessed onOutcome same
@@ -175,13 +178,14 @@ faulty : List Input
 faulty =
     let long : List ℕ = replicate (suc maxID) 0 in
     let loop : List (List ℕ) = (1 ∷ 1 ∷ []) ∷ [] in
-    inputOf [] loop 7 long long ∷
-    inputOf three loop 7 long long ∷
-    inputOf three [] 7 long long ∷
-    inputOf three [] 12 ourDestination long ∷
+    inputOf [] loop loop 7 long long ∷
+    inputOf three loop [] 7 long long ∷
+    inputOf three [] loop 7 long long ∷
+    inputOf three [] [] 7 long long ∷
+    inputOf three [] [] 12 ourDestination long ∷
     []
 
-starts-lowest-first : map (λ (x : Input). startOf x .reply) faulty ≡ map (refuse Reading) (41 ∷ 43 ∷ 44 ∷ 45 ∷ [])
+starts-lowest-first : map (λ (x : Input). startOf x .reply) faulty ≡ map (refuse Reading) (41 ∷ 43 ∷ 43 ∷ 44 ∷ 45 ∷ [])
 unfolding faulty ourDestination three closeOf codeIn table paired pairKeepsRule eachPairKeepsRule pairsKeepRule elem
     entriesKeepRule tableKeepsRule reserved usable startOf
 starts-lowest-first = refl
@@ -190,21 +194,64 @@ starts-lowest-first = refl
 chain : List (List ℕ)
 chain = (1 ∷ 2 ∷ []) ∷ (2 ∷ 3 ∷ []) ∷ []
 
-own-lists-of-a-chain : map (ownList (1 ∷ 2 ∷ 3 ∷ []) chain) (1 ∷ 2 ∷ 3 ∷ []) ≡ (1 ∷ 2 ∷ []) ∷ (2 ∷ 3 ∷ []) ∷ (3 ∷ []) ∷ []
+own-lists-of-a-chain : map (ownList (1 ∷ 2 ∷ 3 ∷ []) chain []) (1 ∷ 2 ∷ 3 ∷ []) ≡ (1 ∷ 2 ∷ []) ∷ (2 ∷ 3 ∷ []) ∷ (3 ∷ []) ∷ []
 unfolding chain entriesWhere ownList mayBeAnswered paired
 own-lists-of-a-chain = refl
+
+-- C-17. P10 with pairs barred: its packet, then an outcome with Chosen 4
+ten-barring : List (List ℕ) → Shown
+ten-barring bs =
+    attempt (barring (3 ∷ 4 ∷ 1 ∷ 2 ∷ []) ((1 ∷ 2 ∷ []) ∷ (3 ∷ 4 ∷ []) ∷ []) bs 1)
+    (packet (4 ∷ 3 ∷ []) ∷ outcome 4 4 (4 ∷ 3 ∷ []) ∷ [])
+
+-- 3 to 4 is barred: the own list is 3, and Chosen 4 is a 72
+ten-left-out : Shown
+ten-left-out = went (answered (acts 3) ∷ refuse Reading 72 ∷ []) 3 (3 ∷ []) (Closed 72)
+
+-- It stands with nothing barred. It stands with 3 to 4 turned round; with 4 barred from 1, the Original Version; with 3 to
+-- 1 and 1 to 4, which make no 3 to 4; and with a pair that is not there. A repeated pair bars as it does alone
+P10-barred :
+    map ten-barring
+    ([] ∷
+    ((4 ∷ 3 ∷ []) ∷ []) ∷
+    ((1 ∷ 4 ∷ []) ∷ []) ∷
+    ((3 ∷ 1 ∷ []) ∷ (1 ∷ 4 ∷ []) ∷ []) ∷
+    ((3 ∷ 2 ∷ []) ∷ []) ∷
+    ((3 ∷ 4 ∷ []) ∷ []) ∷
+    ((3 ∷ 4 ∷ []) ∷ (1 ∷ 2 ∷ []) ∷ (3 ∷ 4 ∷ []) ∷ []) ∷
+    [])
+    ≡
+    replicate 5 (went (answered (acts 3) ∷ answered (completes 4) ∷ []) 3 (3 ∷ 4 ∷ []) (Completed 4)) ++
+    replicate 2 ten-left-out
+unfolding ten-barring ten-left-out ourDestination ourSource barring packet outcome answers attempt closeOf codeIn table
+    preferred paired pairKeepsRule eachPairKeepsRule pairsKeepRule elem entriesKeepRule tableKeepsRule reserved usable
+    entries listBytes isReadableNegotiation padded ownOf run members wordWhere wordOf wordFor rowsFor mayBeAnswered startOf
+    opened stepOf onDatagram onOutcome same
+P10-barred = refl
+
+-- The own lists of its four versions with 3 to 4 barred, and with 1 to 2
+own-lists-barred :
+    map
+    (λ (bs : List (List ℕ)). map (ownList (3 ∷ 4 ∷ 1 ∷ 2 ∷ []) ((1 ∷ 2 ∷ []) ∷ (3 ∷ 4 ∷ []) ∷ []) bs) (3 ∷ 4 ∷ 1 ∷ 2 ∷ []))
+    (((3 ∷ 4 ∷ []) ∷ []) ∷ ((1 ∷ 2 ∷ []) ∷ []) ∷ [])
+    ≡
+    ((3 ∷ []) ∷ (4 ∷ []) ∷ (1 ∷ 2 ∷ []) ∷ (2 ∷ []) ∷ []) ∷
+    ((3 ∷ 4 ∷ []) ∷ (4 ∷ []) ∷ (1 ∷ []) ∷ (2 ∷ []) ∷ []) ∷
+    []
+unfolding entriesWhere ownList mayBeAnswered paired
+own-lists-barred = refl
 
 -- Missing information: "one that never acted completes if the version in use is the attempted one, else 73"
 never-acted : map (λ (e : Handed). answers (startOf (start three [] 12) .attempt) (e ∷ [])) (missing 12 ∷ missing 1 ∷ [])
     ≡ (answered (completes 12) ∷ []) ∷ (refuse Reading 73 ∷ []) ∷ []
-unfolding ourDestination ourSource start missing answers three closeOf codeIn table eachPairKeepsRule pairsKeepRule
+unfolding ourDestination ourSource barring start missing answers three closeOf codeIn table eachPairKeepsRule pairsKeepRule
     elem entriesKeepRule tableKeepsRule reserved usable padded ownOf members wordWhere wordOf wordFor rowsFor mayBeAnswered
     startOf opened stepOf onOutcome
 never-acted = refl
 
 -- The premises of demand 3 and of its corollary can be met
 witness : CompletedAgainst (13 ∷ 14 ∷ []) (start three [] 12) mixed 14
-unfolding mixed actedWith firstOutcome computed expected ourDestination ourSource start packet outcome missing answers
+unfolding mixed actedWith firstOutcome computed expected ourDestination ourSource barring start packet outcome missing answers
     attempt three four cases closeOf codeIn table choose preferred paired pairKeepsRule eachPairKeepsRule
     pairsKeepRule elem entriesKeepRule tableKeepsRule reserved usable entries listBytes isReadableNegotiation padded
     ownOf run members wordWhere wordOf wordFor rowsFor mayBeAnswered startOf opened blank stepOf onDatagram onProcessed

@@ -20,25 +20,30 @@ use Rattle.attempt.specs.declared.StartAnswer.{StartAnswer}
 use Rattle.attempt.specs.declared.StartAnswer.the-variants.{Refused, Opened}
 use Rattle.attempt.specs.declared.Started.{Started}
 
--- "An attempt starts with a table, pairs, an Original Version and its two connection IDs, destination and source"
+-- "An attempt starts with a table, pairs, an Original Version and its two connection IDs, destination and source".
+-- Document 02, C-17: "A start takes, beside the pairs, a list of pairs barred for this attempt's flights"
 pub record Input : Type 0 where
   pub table : List ℕ
   pub pairs : List (List ℕ)
+  pub barred : List (List ℕ)
   pub original : ℕ
   pub destination : List ℕ
   pub source : List ℕ
 
-abbrev pub inputOf : List ℕ → List (List ℕ) → ℕ → List ℕ → List ℕ → Input
-inputOf t ps v d s = record { table = t; pairs = ps; original = v; destination = d; source = s }
+abbrev pub inputOf : List ℕ → List (List ℕ) → List (List ℕ) → ℕ → List ℕ → List ℕ → Input
+inputOf t ps bs v d s = record { table = t; pairs = ps; barred = bs; original = v; destination = d; source = s }
 
--- "Our list", the own list for an attempted version, read from the start
+-- "Our list", the own list for an attempted version, read from the start. Document 02, C-17: "demand 3's 'in our list'"
+-- reads "the shorter list"
 abbrev pub ourList : Input → ℕ → List ℕ
-ourList x attempted = ownList (x .table) (x .pairs) attempted
+ourList x attempted = ownList (x .table) (x .pairs) (x .barred) attempted
+
+-- Document 02, C-17: the barred pairs are "under the pairs' rule, else 43"
 
 abbrev pub startRules : Input → List Rule
 startRules x =
     (41 when not (tableKeepsRule (x .table))) ∷
-    (43 when not (pairsKeepRule (x .pairs))) ∷
+    (43 when not (pairsKeepRule (x .pairs)) || not (pairsKeepRule (x .barred))) ∷
     (44 when not (elem (x .original) (x .table))) ∷
     (45 when ltb maxID (length (x .destination)) || ltb maxID (length (x .source))) ∷
     []
@@ -53,7 +58,7 @@ opened x =
     record {
       table = padded maxTable (x .table);
       «table_len» = length (x .table);
-      rows = padded maxTable (rowsFor (x .table) (x .table) (x .pairs));
+      rows = padded maxTable (rowsFor (x .table) (x .table) (x .pairs) (x .barred));
       destination = padded maxID (x .destination);
       «destination_len» = length (x .destination);
       source = padded maxID (x .source);

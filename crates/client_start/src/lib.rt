@@ -24,24 +24,28 @@ use versions::pairs::are_pairs;
 use versions::table::contains;
 use versions::table::is_table;
 
-// Starts an attempt with a table, pairs, the Original Version and our two connection IDs. Refusals, in order:
-// 41 (the table breaks its rule), 43 (the pairs break theirs), 44 (the Original Version is not in the table),
-// 45 (a connection ID has over MAX_ID bytes). A refusal hands back the blank record, which is no attempt; else
-// the attempt is open and attempts the Original Version.
+// Starts an attempt with a table, pairs, the pairs that are barred for its flights, the Original Version and our two
+// connection IDs. Refusals, in order: 41 (the table breaks its rule), 43 (the pairs or the barred pairs break theirs),
+// 44 (the Original Version is not in the table), 45 (a connection ID has over MAX_ID bytes). A refusal hands back the
+// blank record, which is no attempt; else the attempt is open and attempts the Original Version.
 pub fn start(
     table: &[u32],
     pairs: &[[u32; 2]],
+    barred: &[[u32; 2]],
     original: u32,
     destination: &[u8],
     source: &[u8],
 ) -> Started
-    ensures shown { λ r. ⌜ shownStart r ≡ startOf (inputOf (now (table .entry)) (now (pairs .entry)) original (now (destination .entry)) (now (source .entry))) ⌝ }
-    ensures opens { λ r. ⌜ (isAccepted (inputOf (now (table .entry)) (now (pairs .entry)) original (now (destination .entry)) (now (source .entry))) ≡ true → Reachable (r .attempt)) ⌝ }
+    ensures shown { λ r. ⌜ shownStart r ≡ startOf (inputOf (now (table .entry)) (now (pairs .entry)) (now (barred .entry)) original (now (destination .entry)) (now (source .entry))) ⌝ }
+    ensures opens { λ r. ⌜ (isAccepted (inputOf (now (table .entry)) (now (pairs .entry)) (now (barred .entry)) original (now (destination .entry)) (now (source .entry))) ≡ true → Reachable (r .attempt)) ⌝ }
 {
     if !is_table(table) {
         return refused(Refusal::BAD_TABLE);
     }
     if !are_pairs(pairs) {
+        return refused(Refusal::BAD_PAIRS);
+    }
+    if !are_pairs(barred) {
         return refused(Refusal::BAD_PAIRS);
     }
     if !contains(table, original) {
@@ -53,7 +57,7 @@ pub fn start(
     if MAX_ID < source.len() {
         return refused(Refusal::CONNECTION_ID_TOO_LONG);
     }
-    open(table, pairs, original, destination, source)
+    open(table, pairs, barred, original, destination, source)
 }
 
 fn refused(refusal: Refusal) -> Started
@@ -90,15 +94,16 @@ fn blank_attempt() -> Attempt
 fn open(
     table: &[u32],
     pairs: &[[u32; 2]],
+    barred: &[[u32; 2]],
     original: u32,
     destination: &[u8],
     source: &[u8],
 ) -> Started
     requires { ⌜ (tableKeepsRule (now table) ≡ true) × (length (now destination) ≤ maxID) × (length (now source) ≤ maxID) ⌝ }
-    ensures { λ r. ⌜ shownStart r ≡ openedStart (inputOf (now (table .entry)) (now (pairs .entry)) original (now (destination .entry)) (now (source .entry))) ⌝ }
+    ensures { λ r. ⌜ shownStart r ≡ openedStart (inputOf (now (table .entry)) (now (pairs .entry)) (now (barred .entry)) original (now (destination .entry)) (now (source .entry))) ⌝ }
 {
     let places = padded_table(table);
-    let rows = rows_for(table, pairs);
+    let rows = rows_for(table, pairs, barred);
     let destination_places = padded_id(destination);
     let source_places = padded_id(source);
     let attempt = Attempt {

@@ -5,7 +5,8 @@
 use Prim.Native.Nat.{ℕ}
 use mathlib.Core.Bool.{Bool, cond, not, _&&_, _||_}
 use mathlib.Core.List.{List, [], _∷_, _++_}
-use lib.Dec.{eqb}
+use lib.Dec.{eqb, ltb}
+use lib.ListN.{length}
 use Rattle.refusals.specs.Reply.{Reply, Reply.answered, refuse}
 use Rattle.refusals.specs.Rule.{Rule, Rule._when_, judged}
 use Rattle.refusals.specs.declared.Call.the-variants.{Reading}
@@ -15,6 +16,7 @@ use Rattle.information.specs.Information.{chosenOf, availableOf, formRules, sen
 use Rattle.information.specs.declared.Presence.{Presence}
 use Rattle.information.specs.declared.Presence.the-variants.{Missing, Given}
 use Rattle.information.specs.declared.Sender.the-variants.{Client}
+use Rattle.server.specs.Limits.{maxBarred}
 use Rattle.server.specs.declared.Decision.{Decision}
 use Rattle.server.specs.declared.Decision.the-variants.{Refused, Negotiate, Use}
 
@@ -30,22 +32,25 @@ decisionReply Negotiate = answered negotiate
 decisionReply (Use v) = answered (use-version v)
 
 -- The tables and pairs that the server has: "a table of versions whose first flights it can read, a table of those
--- it accepts, and pairs". "41 and 43 come before all else"
-abbrev pub serverRules : List ℕ → List ℕ → List (List ℕ) → List Rule
-serverRules readable accepted pairs =
+-- it accepts, and pairs". Document 02, C-17: "up to 64 barred versions, of any value, for the flight at hand (more:
+-- 43)". "41 and 43 come before all else"
+abbrev pub serverRules : List ℕ → List ℕ → List (List ℕ) → List ℕ → List Rule
+serverRules readable accepted pairs barred =
     (41 when not (tableKeepsRule readable) || not (tableKeepsRule accepted)) ∷
-    (43 when not (pairsKeepRule pairs)) ∷
+    (43 when not (pairsKeepRule pairs) || ltb maxBarred (length barred)) ∷
     []
 
--- "is in the client's Available list and either is Chosen or is paired from Chosen"
-unfoldable pub mayUse : List (List ℕ) → ℕ → List ℕ → ℕ → Bool
-mayUse pairs chosen available v = elem v available && (eqb v chosen || paired pairs chosen v)
+-- "is in the client's Available list and either is Chosen or is paired from Chosen", and, if it is paired, is not barred.
+-- Document 02, C-17: "Chosen among them has no effect"
+unfoldable pub mayUse : List (List ℕ) → List ℕ → ℕ → List ℕ → ℕ → Bool
+mayUse pairs barred chosen available v =
+    elem v available && (eqb v chosen || (paired pairs chosen v && not (elem v barred)))
 
 -- "the first accepted version that ..; none: negotiate"
-unfoldable pub firstAccepted : List ℕ → List (List ℕ) → ℕ → List ℕ → Act
-firstAccepted [] pairs chosen available = negotiate
-firstAccepted (v ∷ accepted) pairs chosen available =
-    cond (mayUse pairs chosen available v) (use-version v) (firstAccepted accepted pairs chosen available)
+unfoldable pub firstAccepted : List ℕ → List (List ℕ) → List ℕ → ℕ → List ℕ → Act
+firstAccepted [] pairs barred chosen available = negotiate
+firstAccepted (v ∷ accepted) pairs barred chosen available =
+    cond (mayUse pairs barred chosen available v) (use-version v) (firstAccepted accepted pairs barred chosen available)
 
 -- "Malformed: 31 to 36. Chosen not the version of the first flight: 51."
 abbrev pub flightRules : List ℕ → ℕ → List Rule
@@ -55,15 +60,15 @@ flightRules information version =
     ((51 when not (eqb (chosenOf information) version)) ∷ []))
 
 -- "If Version Information is missing: that version if accepted, else negotiate"
-abbrev pub withInformation : List ℕ → List (List ℕ) → ℕ → Presence → List ℕ → Reply Act
-withInformation accepted pairs version Missing information =
+abbrev pub withInformation : List ℕ → List (List ℕ) → List ℕ → ℕ → Presence → List ℕ → Reply Act
+withInformation accepted pairs barred version Missing information =
     answered (cond (elem version accepted) (use-version version) negotiate)
-withInformation accepted pairs version Given information =
+withInformation accepted pairs barred version Given information =
     judged Reading (flightRules information version)
-    (answered (firstAccepted accepted pairs (chosenOf information) (availableOf information)))
+    (answered (firstAccepted accepted pairs barred (chosenOf information) (availableOf information)))
 
 -- "If the version of the first flight is not readable: answer negotiate"
-unfoldable pub decide : List ℕ → List ℕ → List (List ℕ) → ℕ → Presence → List ℕ → Reply Act
-decide readable accepted pairs version presence information =
-    judged Reading (serverRules readable accepted pairs)
-    (cond (elem version readable) (withInformation accepted pairs version presence information) (answered negotiate))
+unfoldable pub decide : List ℕ → List ℕ → List (List ℕ) → List ℕ → ℕ → Presence → List ℕ → Reply Act
+decide readable accepted pairs barred version presence information =
+    judged Reading (serverRules readable accepted pairs barred)
+    (cond (elem version readable) (withInformation accepted pairs barred version presence information) (answered negotiate))

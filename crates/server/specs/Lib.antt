@@ -1,1 +1,2 @@
 pub mod FirstFlight
+pub mod Limits

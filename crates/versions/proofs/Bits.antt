@@ -1,12 +1,12 @@
 -- The word of a set, bit by bit: what each bit says, how many are set, two words joined, and the walk that makes a
 -- word. For the words of the record, of the server's choice and of a list.
 use Prim.Native.Nat.{ℕ, zero, suc, _+_, _*_, _/_, _%_, _^_, _≤_, _<_, max}
-use mathlib.Core.Bool.{Bool, true, false, _||_}
+use mathlib.Core.Bool.{Bool, true, false, not, _&&_, _||_}
 use mathlib.Core.List.{List, [], _∷_}
-use mathlib.Core.Path.{_≡_, refl, _∙_}
+use mathlib.Core.Path.{_≡_, refl, ap, _∙_}
 use native.Mathlib.Nat.{lt-of-lt-of-le, two-pow-succ}
 use native.Mathlib.Omega.{arith}
-use lib.Bits.{bitOr, or-step}
+use lib.Bits.{differ, bitOr, bitXor, or-step, xor-step}
 use lib.Count.{ones, ones-step}
 use lib.Dec.{eqb, lit<}
 use lib.ListN.{length, drop, getD, length-drop}
@@ -95,6 +95,28 @@ word-either f g (t ∷ ts) =
     let b = wordWhere g ts in
     or-step (bit (f t) + 2 * a) (bit (g t) + 2 * b) ∙
     rw (rest-bits (f t) a, rest-bits (g t) b, lowest-bit (f t) a, lowest-bit (g t) b, word-either f g ts, either-bit (f t) (g t)) (omega arith)
+
+-- the word of one test without another is that of both joined, with the other's bits turned
+left-bit : (a b : Bool) → differ (bit (a || b)) (bit b) ≡ bit (a && not b)
+left-bit true true = refl
+left-bit true false = refl
+left-bit false true = refl
+left-bit false false = refl
+
+turned-off : (f g : ℕ → Bool) (ts : List ℕ) →
+    bitXor (wordWhere (λ t. f t || g t) ts) (wordWhere g ts) ≡ wordWhere (λ t. f t && not (g t)) ts
+unfolding wordWhere
+turned-off f g [] = refl
+turned-off f g (t ∷ ts) =
+    let a = wordWhere (λ t. f t || g t) ts in
+    let b = wordWhere g ts in
+    let either = f t || g t in
+    xor-step (bit either + 2 * a) (bit (g t) + 2 * b) ∙
+    rw (rest-bits either a, rest-bits (g t) b, lowest-bit either a, lowest-bit (g t) b, turned-off f g ts, left-bit (f t) (g t)) (omega arith)
+
+pub word-without : (f g : ℕ → Bool) (ts : List ℕ) →
+    bitXor (bitOr (wordWhere f ts) (wordWhere g ts)) (wordWhere g ts) ≡ wordWhere (λ t. f t && not (g t)) ts
+word-without f g ts = ap (λ (w : ℕ). bitXor w (wordWhere g ts)) (word-either f g ts) ∙ turned-off f g ts
 
 -- its set bits are as many as the entries that the test holds of
 pub ones-where : (f : ℕ → Bool) (ts : List ℕ) → ones (wordWhere f ts) ≡ length (entriesWhere f ts)

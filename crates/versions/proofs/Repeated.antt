@@ -1,7 +1,7 @@
 -- Document 01: "a repeated pair is harmless". A pair that is in the table of pairs already may be put in again, at any
 -- place: the same versions are paired, and the table keeps its rule as before, the limit of pairs aside.
 use Prim.Native.Nat.{ℕ, _≤_}
-use mathlib.Core.Bool.{Bool, true, false, not, _&&_, _||_, and-false, false≢true}
+use mathlib.Core.Bool.{Bool, true, false, not, _&&_, _||_, or-assoc, and-false, false≢true}
 use mathlib.Core.List.{List, [], _∷_, _++_}
 use mathlib.Core.Path.{_≡_, refl, sym, _∙_}
 use native.Mathlib.Omega.{arith}
@@ -25,21 +25,27 @@ and-swap false true r = refl
 and-swap false false r = refl
 
 -- What one pair says of two versions
-abbrev pairs? : List ℕ → ℕ → ℕ → Bool
+abbrev pub pairs? : List ℕ → ℕ → ℕ → Bool
 pairs? pair a b = eqb (fromOf pair) a && eqb (toOf pair) b
 
-its-members : (pair : List ℕ) (a b : ℕ) → pairs? pair a b ≡ true → (fromOf pair ≡ a) × (toOf pair ≡ b)
+pub its-members : (pair : List ℕ) (a b : ℕ) → pairs? pair a b ≡ true → (fromOf pair ≡ a) × (toOf pair ≡ b)
 its-members pair a b h =
     let both = both-true (eqb (fromOf pair) a) (eqb (toOf pair) b) h in
     (eqb-true _ _ (both .0), eqb-true _ _ (both .1))
 
 -- A pair put in at any place counts as one put in front
-paired-inserted : (ps qs : List (List ℕ)) (pair : List ℕ) (a b : ℕ) →
+pub paired-inserted : (ps qs : List (List ℕ)) (pair : List ℕ) (a b : ℕ) →
     paired (ps ++ pair ∷ qs) a b ≡ (pairs? pair a b || paired (ps ++ qs) a b)
 unfolding paired
 paired-inserted [] qs pair a b = refl
 paired-inserted (p ∷ ps) qs pair a b =
     rw (paired-inserted ps qs pair a b) (or-swap (pairs? p a b) (pairs? pair a b) (paired (ps ++ qs) a b))
+
+-- The pairs of one table behind those of another
+pub paired-append : (ps qs : List (List ℕ)) (a b : ℕ) → paired (ps ++ qs) a b ≡ (paired ps a b || paired qs a b)
+unfolding paired
+paired-append [] qs a b = refl
+paired-append (p ∷ ps) qs a b = rw (paired-append ps qs a b, or-assoc (pairs? p a b) (paired ps a b) (paired qs a b))
 
 rule-inserted : (ps qs : List (List ℕ)) (pair : List ℕ) →
     eachPairKeepsRule (ps ++ pair ∷ qs) ≡ (pairKeepsRule pair && eachPairKeepsRule (ps ++ qs))
