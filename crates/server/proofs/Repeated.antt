@@ -1,7 +1,7 @@
 -- Document 01: "a repeated pair is harmless". With a pair put in again, at any place, the server decides the same, the
 -- limit of pairs aside.
 use Prim.Native.Nat.{ℕ, _≤_}
-use mathlib.Core.Bool.{Bool, true, _&&_, _||_}
+use mathlib.Core.Bool.{Bool, true, not, _&&_, _||_}
 use mathlib.Core.List.{List, [], _∷_, _++_}
 use mathlib.Core.Path.{_≡_, refl, ap}
 use lib.Dec.{eqb}
@@ -17,29 +17,29 @@ use Rattle.server.specs.FirstFlight.{mayUse, firstAccepted, withInformat
 module _ (ps qs : List (List ℕ)) (pair : List ℕ)
     -- a pair with these members is there already
     (there : paired (ps ++ qs) (fromOf pair) (toOf pair) ≡ true) where
-  same-use : (chosen : ℕ) (available : List ℕ) (v : ℕ) →
-      mayUse (ps ++ pair ∷ qs) chosen available v ≡ mayUse (ps ++ qs) chosen available v
+  same-use : (barred : List ℕ) (chosen : ℕ) (available : List ℕ) (v : ℕ) →
+      mayUse (ps ++ pair ∷ qs) barred chosen available v ≡ mayUse (ps ++ qs) barred chosen available v
   unfolding mayUse
-  same-use chosen available v =
-      ap (λ (b : Bool). elem v available && (eqb v chosen || b)) (pair-repeated ps qs pair there chosen v)
+  same-use barred chosen available v =
+      ap (λ (b : Bool). elem v available && (eqb v chosen || (b && not (elem v barred)))) (pair-repeated ps qs pair there chosen v)
 
-  same-accepted : (accepted : List ℕ) (chosen : ℕ) (available : List ℕ) →
-      firstAccepted accepted (ps ++ pair ∷ qs) chosen available ≡ firstAccepted accepted (ps ++ qs) chosen available
+  same-accepted : (accepted barred : List ℕ) (chosen : ℕ) (available : List ℕ) →
+      firstAccepted accepted (ps ++ pair ∷ qs) barred chosen available ≡ firstAccepted accepted (ps ++ qs) barred chosen available
   unfolding firstAccepted
-  same-accepted [] chosen available = refl
-  same-accepted (v ∷ accepted) chosen available =
-      rw (same-use chosen available v, same-accepted accepted chosen available)
+  same-accepted [] barred chosen available = refl
+  same-accepted (v ∷ accepted) barred chosen available =
+      rw (same-use barred chosen available v, same-accepted accepted barred chosen available)
 
-  same-information : (accepted : List ℕ) (version : ℕ) (presence : Presence) (information : List ℕ) →
-      withInformation accepted (ps ++ pair ∷ qs) version presence information ≡
-      withInformation accepted (ps ++ qs) version presence information
-  same-information accepted version Missing information = refl
-  same-information accepted version Given information = rw (same-accepted accepted)
+  same-information : (accepted barred : List ℕ) (version : ℕ) (presence : Presence) (information : List ℕ) →
+      withInformation accepted (ps ++ pair ∷ qs) barred version presence information ≡
+      withInformation accepted (ps ++ qs) barred version presence information
+  same-information accepted barred version Missing information = refl
+  same-information accepted barred version Given information = rw (same-accepted accepted barred)
 
-  pub decision-repeated : (readable accepted : List ℕ) (version : ℕ) (presence : Presence) (information : List ℕ) →
+  pub decision-repeated : (readable accepted barred : List ℕ) (version : ℕ) (presence : Presence) (information : List ℕ) →
       length (ps ++ pair ∷ qs) ≤ maxPairs →
-      decide readable accepted (ps ++ pair ∷ qs) version presence information ≡
-      decide readable accepted (ps ++ qs) version presence information
+      decide readable accepted (ps ++ pair ∷ qs) barred version presence information ≡
+      decide readable accepted (ps ++ qs) barred version presence information
   unfolding decide
-  decision-repeated readable accepted version presence information fits =
-      rw (rule-repeated ps qs pair there fits, same-information accepted version presence information)
+  decision-repeated readable accepted barred version presence information fits =
+      rw (rule-repeated ps qs pair there fits, same-information accepted barred version presence information)

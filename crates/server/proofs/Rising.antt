@@ -8,8 +8,8 @@ use Rattle.refusals.specs.Rule.{rising}
 use Rattle.server.specs.FirstFlight.{serverRules, flightRules}
 
 -- 41, 43
-pub server-rises : (readable accepted : List ℕ) (pairs : List (List ℕ)) → rising (serverRules readable accepted pairs) ≡ true
-server-rises readable accepted pairs = refl
+pub server-rises : (readable accepted : List ℕ) (pairs : List (List ℕ)) (barred : List ℕ) → rising (serverRules readable accepted pairs barred) ≡ true
+server-rises readable accepted pairs barred = refl
 
 -- 31 to 36, 51
 pub flight-rises : (information : List ℕ) (version : ℕ) → rising (flightRules information version) ≡ true

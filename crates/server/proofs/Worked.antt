@@ -15,7 +15,7 @@ use Rattle.server.specs.FirstFlight.{Act, Act.negotiate, Act.use-version
 
 -- The server reads 3. It accepts a table, has pairs, and a first flight of version 3 comes with given information
 abbrev reads-3 : List ℕ → List (List ℕ) → List ℕ → Reply Act
-reads-3 accepted pairs information = decide (3 ∷ []) accepted pairs 3 Given information
+reads-3 accepted pairs information = decide (3 ∷ []) accepted pairs [] 3 Given information
 
 -- "client Chosen 3, Available 3, 4"
 abbrev pub client : List ℕ
@@ -51,15 +51,15 @@ server-calls =
 -- "41 and 43 come before all else, then in this order."
 pub record Orders : Type 0 where
   -- a bad table and bad pairs
-  pub table-first : decide [] (3 ∷ []) ((3 ∷ 3 ∷ []) ∷ []) 3 Given [] ≡ refuse Reading 41
-  pub accepted-first : decide (3 ∷ []) (3 ∷ 3 ∷ []) ((3 ∷ 3 ∷ []) ∷ []) 3 Given [] ≡ refuse Reading 41
+  pub table-first : decide [] (3 ∷ []) ((3 ∷ 3 ∷ []) ∷ []) [] 3 Given [] ≡ refuse Reading 41
+  pub accepted-first : decide (3 ∷ []) (3 ∷ 3 ∷ []) ((3 ∷ 3 ∷ []) ∷ []) [] 3 Given [] ≡ refuse Reading 41
   -- bad pairs, and a version that is not readable
-  pub pairs-first : decide (3 ∷ []) (3 ∷ []) ((3 ∷ 3 ∷ []) ∷ []) 4 Given [] ≡ refuse Reading 43
+  pub pairs-first : decide (3 ∷ []) (3 ∷ []) ((3 ∷ 3 ∷ []) ∷ []) [] 4 Given [] ≡ refuse Reading 43
   -- a version that is not readable, and malformed information
-  pub unreadable-first : decide (3 ∷ []) (4 ∷ 3 ∷ []) [] 4 Given [] ≡ answered negotiate
+  pub unreadable-first : decide (3 ∷ []) (4 ∷ 3 ∷ []) [] [] 4 Given [] ≡ answered negotiate
   -- information is missing: the version if accepted, whatever the bytes
-  pub missing-accepted : decide (3 ∷ []) (4 ∷ 3 ∷ []) [] 3 Missing [] ≡ answered (use-version 3)
-  pub missing-not-accepted : decide (3 ∷ []) (4 ∷ []) [] 3 Missing client ≡ answered negotiate
+  pub missing-accepted : decide (3 ∷ []) (4 ∷ 3 ∷ []) [] [] 3 Missing [] ≡ answered (use-version 3)
+  pub missing-not-accepted : decide (3 ∷ []) (4 ∷ []) [] [] 3 Missing client ≡ answered negotiate
   -- Chosen is neither available nor the version of the first flight
   pub malformed-first : reads-3 (3 ∷ []) [] (informationBytes 4 (3 ∷ [])) ≡ refuse Reading 36
   -- Chosen is not the version of the first flight, and nothing is in common

@@ -10,13 +10,15 @@ use Rattle.server.proofs.Flights.{given-refused, given-other, given-sam
 use Rattle.server.proofs.choose_with_information.Statement.{statement}
 use Rattle.server.proofs.choose_with_information.Tie as tie
 
--- what the reader found
+-- what was handed in, and what the reader found
+abbrev start : tie.After-known-told2 → tie.Start
+start c = c .before .before .before .before .before .before .before
+
 known :
     (c : tie.After-known-told2) →
-    let read = c .before .chosen .given .0 in
-    Known Client (now (c .before .before .before .before .before .before .args .information)) (read .0) (read .1 .0)
+    let read = c .before .chosen .given .0 in Known Client (now (start c .args .information)) (read .0) (read .1 .0)
 known c =
-    read-known Client (now (c .before .before .before .before .before .before .args .information)) _ _
+    read-known Client (now (start c .args .information)) _ _
     (sym (ap informationReply (c .before .chosen .given .1)) ∙ c .before .before .before .read-information .ensures)
 
 read-information-requires : tie.Need-read-information-requires
@@ -30,8 +32,8 @@ enum-known-chosen c = search needs
 
 returns : tie.Need-returns
 returns c =
-    let g = c .before .before .before .before .before .before .before .args in
-    given-other (now (g .accepted)) (now (g .pairs)) (g .version) (now (g .information)) _ _ (known (c .before)) (c .if1 .taken)
+    let g = start (c .before) .args in
+    given-other (now (g .accepted)) (now (g .pairs)) (now (g .barred)) (g .version) (now (g .information)) _ _ (known (c .before)) (c .if1 .taken)
 
 sub-first-accepted : tie.Need-sub-first-accepted
 sub-first-accepted c =
@@ -53,15 +55,17 @@ first-accepted-requires c κs = search needs
 
 returns-2 : tie.Need-returns-2
 returns-2 c =
-    let g = c .before .before .before .before .before .before .args in
-    given-refused (now (g .accepted)) (now (g .pairs)) (g .version) (now (g .information)) _
+    let g = c .before .before .before .before .before .before .before .args in
+    given-refused (now (g .accepted)) (now (g .pairs)) (now (g .barred)) (g .version) (now (g .information)) _
     (sym (ap informationReply (c .before .refusal .given .1)) ∙ c .before .before .before .read-information .ensures)
 
 returns-3 : tie.Need-returns-3
 returns-3 c =
-    let g = c .before .before .before .before .before .before .before .before .before .args in
+    let at = c .before .before .before in
+    let g = start at .args in
     c .first-accepted .ensures ∙
-    given-same (now (g .accepted)) (now (g .pairs)) (g .version) (now (g .information)) _ _ (known (c .before .before .before)) (c .before .before .if1 .left)
+    given-same (now (g .accepted)) (now (g .pairs)) (now (g .barred)) (g .version) (now (g .information)) _ _ (known at)
+    (c .before .before .if1 .left)
 
 pub choose-with-information-spec : {M : Type 1} → statement M
 choose-with-information-spec =

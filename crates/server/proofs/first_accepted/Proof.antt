@@ -15,13 +15,13 @@ use Rattle.server.proofs.first_accepted.Statement.{statement}
 use Rattle.server.proofs.first_accepted.Tie as tie
 
 abbrev Inv-loop : tie.InvT-loop
-Inv-loop accepted pairs chosen available word₀ i₀ word i =
+Inv-loop accepted pairs barred chosen available word₀ i₀ word i =
     (i ≤ length accepted) ×
     ((word ≡ wordFrom (drop i accepted) pairs chosen) ×
-    (firstAccepted accepted pairs chosen (entries available) ≡ firstAccepted (drop i accepted) pairs chosen (entries available)))
+    (firstAccepted accepted pairs barred chosen (entries available) ≡ firstAccepted (drop i accepted) pairs barred chosen (entries available)))
 
 abbrev μ-loop : tie.MeasureT-loop
-μ-loop accepted pairs chosen available word₀ i₀ word i = length accepted - i
+μ-loop accepted pairs barred chosen available word₀ i₀ word i = length accepted - i
 
 word-from-requires : tie.Need-word-from-requires Inv-loop μ-loop
 word-from-requires c κs = search needs
@@ -42,13 +42,13 @@ may-use-requires c κs = search needs
 told :
     (c : tie.After-may-use Inv-loop μ-loop) →
     let at = c .before .before .before in
-    let g = at .before .before .before .before .args in
-    mayUse (now (g .pairs)) (g .chosen) (entries (now (g .available))) (getD (now (g .accepted)) (at .loop .i) 0) ≡ c .may-use .result
+    let g = at .before .before .before .before .before .args in
+    mayUse (now (g .pairs)) (now (g .barred)) (g .chosen) (entries (now (g .available))) (getD (now (g .accepted)) (at .loop .i) 0) ≡ c .may-use .result
 told c =
     let at = c .before .before .before in
-    let g = at .before .before .before .before .args in
-    use-told (now (g .pairs)) (g .chosen) (entries (now (g .available))) (now (g .accepted)) (at .loop .i) (at .loop .word)
-    (c .before .before .loop-test .taken) (at .loop .inv .1 .0) ∙
+    let g = at .before .before .before .before .before .args in
+    use-told (now (g .pairs)) (g .chosen) (now (g .accepted)) (at .loop .i) (at .loop .word) (now (g .barred))
+    (entries (now (g .available))) (c .before .before .loop-test .taken) (at .loop .inv .1 .0) ∙
     sym (c .may-use .ensures)
 
 returns : tie.Need-returns Inv-loop μ-loop
@@ -57,7 +57,7 @@ returns c =
     sym
     (ap answered
     (at .loop .inv .1 .1 ∙
-    accepted-here _ _ _ _ _ (c .before .before .before .loop-test .taken) (told (c .before) ∙ c .if1 .taken)))
+    accepted-here _ _ _ _ _ _ (c .before .before .before .loop-test .taken) (told (c .before) ∙ c .if1 .taken)))
 
 add-i : tie.Need-add-i Inv-loop μ-loop
 add-i c = omega arith
@@ -68,18 +68,17 @@ loop-less c = omega arith
 loop-again : tie.Need-loop-again Inv-loop μ-loop
 loop-again c =
     let at = c .before .before .before .before in
-    let g = at .before .before .before .before .args in
+    let g = at .before .before .before .before .before .args in
     let here = c .before .before .before .loop-test .taken in (
       omega arith,
       (
-        word-rest (now (g .pairs)) (g .chosen) (entries (now (g .available))) (now (g .accepted)) (at .loop .i) (at .loop .word) here
-            (at .loop .inv .1 .0),
-        at .loop .inv .1 .1 ∙ accepted-next _ _ _ _ _ here (told (c .before) ∙ c .if1 .left),
+        word-rest (now (g .pairs)) (g .chosen) (now (g .accepted)) (at .loop .i) (at .loop .word) here (at .loop .inv .1 .0),
+        at .loop .inv .1 .1 ∙ accepted-next _ _ _ _ _ _ here (told (c .before) ∙ c .if1 .left),
       ),
     )
 
 returns-2 : tie.Need-returns-2 Inv-loop μ-loop
-returns-2 c = sym (ap answered (c .before .loop .inv .1 .1 ∙ accepted-end _ _ _ _ _ (c .loop-test .left)))
+returns-2 c = sym (ap answered (c .before .loop .inv .1 .1 ∙ accepted-end _ _ _ _ _ _ (c .loop-test .left)))
 
 pub first-accepted-spec : {M : Type 1} → statement M
 first-accepted-spec =
