@@ -1,5 +1,5 @@
 -- A list in an array of n places, entry by entry: a walk that stores each next entry fills it.
-use Prim.Native.Nat.{ℕ, zero, suc, _+_, _≤_, _<_}
+use Prim.Native.Nat.{ℕ, suc, _+_, _≤_, _<_}
 use mathlib.Core.List.{List, [], _∷_, _++_}
 use mathlib.Core.Path.{_≡_, refl, sym, ap, _∙_}
 use native.Mathlib.Numerals.{add-one}
@@ -11,13 +11,6 @@ use Rattle.attempt.specs.Attempt.{over, padded}
 pub padded-none : (n : ℕ) → replicate n 0 ≡ padded n []
 unfolding padded
 padded-none n = refl
-
--- zeros in places are zeros
-pub padded-zeros : (k n : ℕ) → k ≤ n → replicate n 0 ≡ padded n (replicate k 0)
-unfolding padded
-padded-zeros zero n h = refl
-padded-zeros (suc k) zero h = absurd (omega arith)
-padded-zeros (suc k) (suc n) h = ap (λ (xs : List ℕ). 0 ∷ xs) (padded-zeros k n (omega arith))
 
 -- One entry more, at the place after the last: over what was found, and over zeros
 pub push-over : (found xs : List ℕ) (i x : ℕ) → length xs ≡ i → i < length found →

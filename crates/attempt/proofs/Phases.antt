@@ -43,8 +43,8 @@ opened-reads x =
       original = refl;
       own =
           λ v h.
-              rw (t, word-of-row (x .table) (x .table) (x .pairs) (x .barred) _ v h)
-                  (members-word (x .table) (x .pairs) (x .barred) v);
+          rw (t, word-of-row (x .table) (x .table) (x .pairs) (x .barred) _ v h)
+          (members-word (x .table) (x .pairs) (x .barred) v);
     }
 
 -- what an event may change leaves it

@@ -107,9 +107,9 @@ abbrev pub informationToWriteOf : ℕ → ℕ → List ℕ → ℕ → Reply (Li
 informationToWriteOf sender chosen available room =
     forKnown (λ s. informationToWrite s chosen available room) (senderOf sender)
 
-abbrev pub decideOn : List ℕ → List ℕ → List (List ℕ) → ℕ → ℕ → List ℕ → Reply Act
-decideOn readable accepted pairs version presence information =
-    forKnown (λ p. decide readable accepted pairs version p information) (presenceOf presence)
+abbrev pub decideOn : List ℕ → List ℕ → List (List ℕ) → List ℕ → ℕ → ℕ → List ℕ → Reply Act
+decideOn readable accepted pairs barred version presence information =
+    forKnown (λ p. decide readable accepted pairs barred version p information) (presenceOf presence)
 
 -- The own list of a record's attempt, 255 for a record that could not be an attempt's (`isRecord`)
 abbrev pub ownAnswer : Record → Reply (List ℕ)

@@ -38,13 +38,14 @@ pub extern "C" fn qv_event(held: &mut Record, kind: u32, value: u32, bytes: &[u8
 pub extern "C" fn qv_start(
     table: &[u32],
     pairs: &[[u32; 2]],
+    barred: &[[u32; 2]],
     original: u32,
     destination: &[u8],
     source: &[u8],
 ) -> RecordAndRefusal
-    ensures { λ r. ⌜ shownLeft r ≡ startRecord (inputOf (now (table .entry)) (now (pairs .entry)) original (now (destination .entry)) (now (source .entry))) ⌝ }
+    ensures { λ r. ⌜ shownLeft r ≡ startRecord (inputOf (now (table .entry)) (now (pairs .entry)) (now (barred .entry)) original (now (destination .entry)) (now (source .entry))) ⌝ }
 {
-    start_record(table, pairs, original, destination, source)
+    start_record(table, pairs, barred, original, destination, source)
 }
 
 // The own list of an attempt, for the client's Version Information: its versions and their count; places past it keep

@@ -100,22 +100,31 @@ pub extern "C" fn qv_server_choice(
     readable: &[u32],
     accepted: &[u32],
     pairs: &[[u32; 2]],
+    barred: &[u32],
     version: u32,
     presence: u32,
     information: &[u8],
     decision: &mut u32,
 ) -> u32
     ensures answer { λ r. ⌜ r ≡ returned
-        (decideOn (now (readable .entry)) (now (accepted .entry)) (now (pairs .entry)) version presence (now (information .entry))) ⌝ }
+        (decideOn (now (readable .entry)) (now (accepted .entry)) (now (pairs .entry)) (now (barred .entry)) version presence (now (information .entry))) ⌝ }
     ensures left { λ _. ⌜ now (decision .exit) ≡ leaving actNumber
-        (decideOn (now (readable .entry)) (now (accepted .entry)) (now (pairs .entry)) version presence (now (information .entry)))
+        (decideOn (now (readable .entry)) (now (accepted .entry)) (now (pairs .entry)) (now (barred .entry)) version presence (now (information .entry)))
         (now (decision .entry)) ⌝ }
 {
     if 1 < presence {
         return NOT_VALID;
     }
     let given = presence_of(presence);
-    match choose_after_first_flight(readable, accepted, pairs, version, given, information) {
+    match choose_after_first_flight(
+        readable,
+        accepted,
+        pairs,
+        barred,
+        version,
+        given,
+        information,
+    ) {
         Decision::Refused(refusal) => refusal.0 as u32,
         Decision::Negotiate => {
             *decision = 0;

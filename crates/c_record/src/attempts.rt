@@ -22,13 +22,14 @@ use versions::table::place_of;
 pub fn start_record(
     table: &[u32],
     pairs: &[[u32; 2]],
+    barred: &[[u32; 2]],
     original: u32,
     destination: &[u8],
     source: &[u8],
 ) -> RecordAndRefusal
-    ensures { λ r. ⌜ shownLeft r ≡ startRecord (inputOf (now (table .entry)) (now (pairs .entry)) original (now (destination .entry)) (now (source .entry))) ⌝ }
+    ensures { λ r. ⌜ shownLeft r ≡ startRecord (inputOf (now (table .entry)) (now (pairs .entry)) (now (barred .entry)) original (now (destination .entry)) (now (source .entry))) ⌝ }
 {
-    let started = start(table, pairs, original, destination, source);
+    let started = start(table, pairs, barred, original, destination, source);
     let attempt = started.attempt;
     let answer = started.answer;
     let opened = encode(attempt);

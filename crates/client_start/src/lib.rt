@@ -4,6 +4,7 @@ ghost use mathlib.Core.Path.{_≡_};
 ghost use Prim.Native.Nat.{_≤_};
 ghost use lib.ListN.{length};
 ghost use Rattle.versions.specs.Limits.{maxTable};
+ghost use Rattle.versions.specs.Pairs.{pairsKeepRule};
 ghost use Rattle.versions.specs.Table.{tableKeepsRule};
 ghost use Rattle.attempt.specs.Attempt.{padded};
 ghost use Rattle.attempt.specs.Events.{Reachable};
@@ -99,7 +100,8 @@ fn open(
     destination: &[u8],
     source: &[u8],
 ) -> Started
-    requires { ⌜ (tableKeepsRule (now table) ≡ true) × (length (now destination) ≤ maxID) × (length (now source) ≤ maxID) ⌝ }
+    requires { ⌜ (tableKeepsRule (now table) ≡ true) × (pairsKeepRule (now barred) ≡ true) × (length (now destination) ≤ maxID) ×
+        (length (now source) ≤ maxID) ⌝ }
     ensures { λ r. ⌜ shownStart r ≡ openedStart (inputOf (now (table .entry)) (now (pairs .entry)) (now (barred .entry)) original (now (destination .entry)) (now (source .entry))) ⌝ }
 {
     let places = padded_table(table);

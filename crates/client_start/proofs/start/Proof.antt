@@ -175,7 +175,7 @@ returns-6 c =
 open-requires : tie.Need-open-requires
 open-requires c κs =
     let at = c .before .before in
-    (before-original (at .before .before) (λ t p b. t), omega arith, omega arith)
+    (before-original (at .before .before) (λ t p b. t), barred-kept (at .before .before), omega arith, omega arith)
 
 returns-7 : tie.Need-returns-7
 returns-7 c =

@@ -1,100 +1,112 @@
--- `rows_for`: after i entries the rows are the first i words, in their places.
+-- `rows_for`: from the barred pairs' end on, the rows so far are those with the rest of them barred.
 use Prim.Native.Nat.{_-_, _<_, _≤_}
 use mathlib.Core.Path.{_≡_, _∙_}
 use native.Mathlib.Omega.{arith}
-use lib.ListN.{length, take, getD}
+use lib.ListN.{length, drop}
 use borrow.Author.Needs.{needs}
 use Rattle.versions.specs.Limits.{maxTable}
 use Rattle.versions.proofs.Lists.{table-counts}
 use Rattle.attempt.specs.Attempt.{padded}
 use Rattle.attempt.specs.OwnList.{rowsFor}
-use Rattle.attempt.proofs.Padded.{padded-none, push-next, padded-all}
-use Rattle.client_start.proofs.Rows.{length-rows, row-made}
+use Rattle.client_start.proofs.Rows.{barred-hit, barred-miss, barred-end}
 use Rattle.client_start.proofs.words.rows_for.Statement.{statement}
 use Rattle.client_start.proofs.words.rows_for.Tie as tie
 
 abbrev Inv-loop : tie.InvT-loop
-Inv-loop table pairs barred compatible excluded rows₀ i₀ rows i =
-    (i ≤ length table) × (rows ≡ padded maxTable (take i (rowsFor table table pairs barred)))
+Inv-loop table pairs barred rows₀ k₀ rows k =
+    (k ≤ length barred) × (rows ≡ padded maxTable (rowsFor table table pairs (drop k barred)))
 
 abbrev μ-loop : tie.MeasureT-loop
-μ-loop table pairs barred compatible excluded rows₀ i₀ rows i = length table - i
+μ-loop table pairs barred rows₀ k₀ rows k = k
 
--- a place of the table is one of a row
-place-fits : (c : tie.In-loop Inv-loop μ-loop) → c .before .loop .i < maxTable
-place-fits c =
-    let entry = c .before .before .before .before .before in
-    let few = table-counts (entry .args .table .now) (entry .pre) .1 in
-    omega (arith, few)
-
-pair-rows-requires : tie.Need-pair-rows-requires Inv-loop μ-loop
-pair-rows-requires c κs = search needs
-
-pair-rows-requires-2 : tie.Need-pair-rows-requires-2 Inv-loop μ-loop
-pair-rows-requires-2 c κs = search needs
+paired-rows-requires : tie.Need-paired-rows-requires Inv-loop μ-loop
+paired-rows-requires c κs = c .before .pre .0
 
 loop-holds : tie.Need-loop-holds Inv-loop μ-loop
-loop-holds c = (omega arith, padded-none maxTable)
+loop-holds c =
+    let args = c .before .before .args in
+    (omega arith, c .paired-rows .ensures ∙ barred-end (args .table .now) (args .pairs .now) (args .barred .now))
 
-mul-out : tie.Need-mul-out Inv-loop μ-loop
-mul-out c = omega (arith, place-fits c)
+sub-k : tie.Need-sub-k Inv-loop μ-loop
+sub-k c = omega arith
 
-array-read-out : tie.Need-array-read-out Inv-loop μ-loop
-array-read-out c = place-fits c
+mul-pair : tie.Need-mul-pair Inv-loop μ-loop
+mul-pair c = search needs
 
-mul-mark : tie.Need-mul-mark Inv-loop μ-loop
-mul-mark c = omega arith
+shared-slice-copy-out-pair : tie.Need-shared-slice-copy-out-pair Inv-loop μ-loop
+shared-slice-copy-out-pair c = omega arith
 
-shared-slice-read-mark : tie.Need-shared-slice-read-mark Inv-loop μ-loop
-shared-slice-read-mark c = omega arith
+array-read-place-of : tie.Need-array-read-place-of Inv-loop μ-loop
+array-read-place-of c = search needs
 
-mul-mark-2 : tie.Need-mul-mark-2 Inv-loop μ-loop
-mul-mark-2 c = omega (arith, place-fits (c .before))
+place-of-requires : tie.Need-place-of-requires Inv-loop μ-loop
+place-of-requires c κs = search needs
 
 array-read-mark : tie.Need-array-read-mark Inv-loop μ-loop
-array-read-mark c = place-fits (c .before)
+array-read-mark c = search needs
 
 mark-requires : tie.Need-mark-requires Inv-loop μ-loop
 mark-requires c κs = search needs
 
+-- the place of a pair's first member is one of a row
+place-fits : (c : tie.Then1 Inv-loop μ-loop) → c .before .place-of .result < maxTable
+place-fits c =
+    let at = c .before .before .before .before in
+    let entry = at .before .before .before in
+    let few = table-counts (entry .args .table .now) (entry .pre .0) .1 in
+    omega (arith, c .if1 .taken, few)
+
 mul-rows : tie.Need-mul-rows Inv-loop μ-loop
-mul-rows c = omega arith
+mul-rows c = omega (arith, place-fits (c .before))
+
+array-read-rows : tie.Need-array-read-rows Inv-loop μ-loop
+array-read-rows c = place-fits (c .before)
+
+mul-rows-2 : tie.Need-mul-rows-2 Inv-loop μ-loop
+mul-rows-2 c = omega (arith, place-fits (c .before))
 
 array-write-rows : tie.Need-array-write-rows Inv-loop μ-loop
-array-write-rows c = place-fits (c .before .before)
-
-add-i : tie.Need-add-i Inv-loop μ-loop
-add-i c = omega arith
+array-write-rows c = place-fits (c .before)
 
 loop-less : tie.Need-loop-less Inv-loop μ-loop
 loop-less c = omega arith
 
 loop-again : tie.Need-loop-again Inv-loop μ-loop
 loop-again c =
-    let at = c .before .before .before in
-    let entry = at .before .before .before .before in
+    let at = c .before .before .before .before .before in
+    let entry = at .before .before .before in
     let table = entry .args .table .now in
-    let pairs = entry .args .pairs .now in
     let barred = entry .args .barred .now in
-    let rows = rowsFor table table pairs barred in
-    let i = at .loop .i in
-    let all : length rows ≡ length table = length-rows table table pairs barred in
-    let few = table-counts table (entry .pre) .1 in
-    let word : c .mark .result ≡ getD rows i 0 =
-    c .mark .ensures ∙
-    rw (at .before .before .pair-rows .ensures, at .before .pair-rows2 .ensures) (row-made table (entry .pre) pairs barred i (omega arith)) in (
+    let place = c .before .before .place-of .ensures in
+    let k = at .loop .k in (
       omega arith,
-      rw (at .loop .inv .1, word) (push-next maxTable rows i (omega arith) (omega arith)),
+      rw (c .mark .ensures, at .loop .inv .1, place)
+          (barred-hit table (entry .pre .0) barred (k - 1) k (omega arith) (omega arith) (entry .args .pairs .now) (entry .pre .1)
+          (rw (← place) (c .before .if1 .taken))),
+    )
+
+loop-less-2 : tie.Need-loop-less-2 Inv-loop μ-loop
+loop-less-2 c = omega arith
+
+loop-again-2 : tie.Need-loop-again-2 Inv-loop μ-loop
+loop-again-2 c =
+    let at = c .before .before .before .before in
+    let entry = at .before .before .before in
+    let table = entry .args .table .now in
+    let barred = entry .args .barred .now in
+    let place = c .before .place-of .ensures in
+    let k = at .loop .k in (
+      omega arith,
+      at .loop .inv .1 ∙
+          barred-miss table (entry .pre .0) barred (k - 1) k (omega arith) (omega arith) (entry .args .pairs .now) (entry .pre .1)
+          (rw (← place) (c .if1 .left)),
     )
 
 returns : tie.Need-returns Inv-loop μ-loop
 returns c =
     let at = c .before in
-    let entry = at .before .before .before .before in
-    let table = entry .args .table .now in
-    let rows = rowsFor table table (entry .args .pairs .now) (entry .args .barred .now) in
-    let all : length rows ≡ length table = length-rows table table (entry .args .pairs .now) (entry .args .barred .now) in
-    at .loop .inv .1 ∙ padded-all maxTable rows (at .loop .i) (omega arith)
+    let done : at .loop .k ≡ 0 = omega arith in
+    at .loop .inv .1 ∙ rw done
 
 pub rows-for-spec : {M : Type 1} → statement M
 rows-for-spec =
@@ -102,19 +114,21 @@ rows-for-spec =
     (tie.spec
     Inv-loop
     μ-loop
-    pair-rows-requires
-    pair-rows-requires-2
+    paired-rows-requires
     loop-holds
-    mul-out
-    array-read-out
-    mul-mark
-    shared-slice-read-mark
-    mul-mark-2
+    sub-k
+    mul-pair
+    shared-slice-copy-out-pair
+    array-read-place-of
+    place-of-requires
     array-read-mark
     mark-requires
     mul-rows
+    array-read-rows
+    mul-rows-2
     array-write-rows
-    add-i
     loop-less
     loop-again
+    loop-less-2
+    loop-again-2
     returns)

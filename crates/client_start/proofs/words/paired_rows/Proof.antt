@@ -1,5 +1,6 @@
--- `pair_rows`: from the pairs' end on, the rows so far are those of the rest of the pairs.
+-- `paired_rows`: from the pairs' end on, the rows so far are those of the rest of the pairs.
 use Prim.Native.Nat.{_-_, _<_, _≤_}
+use mathlib.Core.List.{[]}
 use mathlib.Core.Path.{_≡_, _∙_}
 use native.Mathlib.Omega.{arith}
 use lib.ListN.{length, drop}
@@ -7,21 +8,24 @@ use borrow.Author.Needs.{needs}
 use Rattle.versions.specs.Limits.{maxTable}
 use Rattle.versions.proofs.Lists.{table-counts}
 use Rattle.attempt.specs.Attempt.{padded}
-use Rattle.client_start.specs.PairRows.{pairRows}
+use Rattle.attempt.specs.OwnList.{rowsFor}
 use Rattle.client_start.proofs.Rows.{rows-hit, rows-miss, rows-end}
-use Rattle.client_start.proofs.words.pair_rows.Statement.{statement}
-use Rattle.client_start.proofs.words.pair_rows.Tie as tie
+use Rattle.client_start.proofs.words.paired_rows.Statement.{statement}
+use Rattle.client_start.proofs.words.paired_rows.Tie as tie
 
 abbrev Inv-loop : tie.InvT-loop
-Inv-loop table pairs rows₀ k₀ rows k = (k ≤ length pairs) × (rows ≡ padded maxTable (pairRows table table (drop k pairs)))
+Inv-loop table pairs rows₀ k₀ rows k = (k ≤ length pairs) × (rows ≡ padded maxTable (rowsFor table table (drop k pairs) []))
 
 abbrev μ-loop : tie.MeasureT-loop
 μ-loop table pairs rows₀ k₀ rows k = k
 
+own-rows-requires : tie.Need-own-rows-requires Inv-loop μ-loop
+own-rows-requires c κs = search needs
+
 loop-holds : tie.Need-loop-holds Inv-loop μ-loop
 loop-holds c =
-    let entry = c .before in
-    (omega arith, rows-end (entry .args .table .now) (entry .args .pairs .now) (table-counts (entry .args .table .now) (entry .pre) .1))
+    let args = c .before .before .args in
+    (omega arith, c .own-rows .ensures ∙ rows-end (args .table .now) (args .pairs .now))
 
 sub-k : tie.Need-sub-k Inv-loop μ-loop
 sub-k c = omega arith
@@ -44,7 +48,7 @@ array-read-mark c = search needs
 -- the place of a pair's first member is one of a row
 place-fits : (c : tie.Then1 Inv-loop μ-loop) → c .before .place-of .result < maxTable
 place-fits c =
-    let entry = c .before .before .before .before .before .before in
+    let entry = c .before .before .before .before .before .before .before in
     let few = table-counts (entry .args .table .now) (entry .pre) .1 in
     omega (arith, c .if1 .taken, few)
 
@@ -69,7 +73,7 @@ loop-less c = omega arith
 loop-again : tie.Need-loop-again Inv-loop μ-loop
 loop-again c =
     let at = c .before .before .before .before .before in
-    let entry = at .before .before in
+    let entry = at .before .before .before in
     let table = entry .args .table .now in
     let pairs = entry .args .pairs .now in
     let place = c .before .before .place-of .ensures in
@@ -85,7 +89,7 @@ loop-less-2 c = omega arith
 loop-again-2 : tie.Need-loop-again-2 Inv-loop μ-loop
 loop-again-2 c =
     let at = c .before .before .before .before in
-    let entry = at .before .before in
+    let entry = at .before .before .before in
     let table = entry .args .table .now in
     let pairs = entry .args .pairs .now in
     let place = c .before .place-of .ensures in
@@ -101,12 +105,13 @@ returns c =
     let done : at .loop .k ≡ 0 = omega arith in
     at .loop .inv .1 ∙ rw done
 
-pub pair-rows-spec : {M : Type 1} → statement M
-pair-rows-spec =
+pub paired-rows-spec : {M : Type 1} → statement M
+paired-rows-spec =
     tie.close
     (tie.spec
     Inv-loop
     μ-loop
+    own-rows-requires
     loop-holds
     sub-k
     mul-pair
