@@ -9,7 +9,10 @@ ghost use Rattle.versions.specs.Table.{tableKeepsRule};
 ghost use Rattle.attempt.specs.Attempt.{padded};
 ghost use Rattle.attempt.specs.Events.{Reachable};
 ghost use Rattle.attempt.specs.Limits.{maxID};
-ghost use Rattle.attempt.specs.Start.{inputOf, isAccepted, shownStart, startOf, refusedStart, openedStart, blank};
+ghost use Rattle.refusals.specs.Reply.{Reply.answered};
+ghost use Rattle.refusals.specs.Rule.{judged};
+ghost use Rattle.refusals.specs.declared.Call.the-variants.{Reading};
+ghost use Rattle.attempt.specs.Start.{Nothing.nothing, inputOf, startRules, isAccepted, startReply, shownStart, startOf, refusedStart, openedStart, blank};
 
 mod words; // the words that the record keeps own lists as
 
@@ -40,27 +43,47 @@ pub fn start(
     ensures shown { λ r. ⌜ shownStart r ≡ startOf (inputOf (now (table .entry)) (now (pairs .entry)) (now (barred .entry)) original (now (destination .entry)) (now (source .entry))) ⌝ }
     ensures opens { λ r. ⌜ (isAccepted (inputOf (now (table .entry)) (now (pairs .entry)) (now (barred .entry)) original (now (destination .entry)) (now (source .entry))) ≡ true → Reachable (r .attempt)) ⌝ }
 {
-    if !is_table(table) {
-        return refused(Refusal::BAD_TABLE);
+    match judge(table, pairs, barred, original, destination, source) {
+        StartAnswer::Refused(refusal) => refused(refusal),
+        StartAnswer::Opened => open(table, pairs, barred, original, destination, source),
     }
-    if !are_pairs(pairs) {
-        return refused(Refusal::BAD_PAIRS);
-    }
-    if !are_pairs(barred) {
-        return refused(Refusal::BAD_PAIRS);
-    }
-    if !contains(table, original) {
-        return refused(Refusal::ORIGINAL_NOT_IN_TABLE);
-    }
-    if MAX_ID < destination.len() {
-        return refused(Refusal::CONNECTION_ID_TOO_LONG);
-    }
-    if MAX_ID < source.len() {
-        return refused(Refusal::CONNECTION_ID_TOO_LONG);
-    }
-    open(table, pairs, barred, original, destination, source)
 }
 
+// The answer of a start: its refusals, in order, or that the attempt is open.
+fn judge(
+    table: &[u32],
+    pairs: &[[u32; 2]],
+    barred: &[[u32; 2]],
+    original: u32,
+    destination: &[u8],
+    source: &[u8],
+) -> StartAnswer
+    ensures { λ r. ⌜ startReply r ≡ judged Reading
+        (startRules (inputOf (now (table .entry)) (now (pairs .entry)) (now (barred .entry)) original (now (destination .entry)) (now (source .entry))))
+        (answered nothing) ⌝ }
+{
+    if !is_table(table) {
+        return StartAnswer::Refused(Refusal::BAD_TABLE);
+    }
+    if !are_pairs(pairs) {
+        return StartAnswer::Refused(Refusal::BAD_PAIRS);
+    }
+    if !are_pairs(barred) {
+        return StartAnswer::Refused(Refusal::BAD_PAIRS);
+    }
+    if !contains(table, original) {
+        return StartAnswer::Refused(Refusal::ORIGINAL_NOT_IN_TABLE);
+    }
+    if MAX_ID < destination.len() {
+        return StartAnswer::Refused(Refusal::CONNECTION_ID_TOO_LONG);
+    }
+    if MAX_ID < source.len() {
+        return StartAnswer::Refused(Refusal::CONNECTION_ID_TOO_LONG);
+    }
+    StartAnswer::Opened
+}
+
+// What a refused start hands back.
 fn refused(refusal: Refusal) -> Started
     ensures { λ r. ⌜ shownStart r ≡ refusedStart (refusal .0) ⌝ }
 {

@@ -21,10 +21,10 @@ pub(crate) fn rows_for(table: &[u32], pairs: &[[u32; 2]], barred: &[[u32; 2]]) -
     let mut k = barred.len();
     while 0 < k {
         k -= 1;
-        let pair = barred[k];
-        let from = place_of(table, pair[0]);
+        let excluded = barred[k];
+        let from = place_of(table, excluded[0]);
         if from < table.len() {
-            let bit = mark(table, pair[1], 0);
+            let bit = mark(table, excluded[1], 0);
             rows[from] = (rows[from] | bit) ^ bit;
         }
     }

@@ -1,3 +1,4 @@
+pub mod Barred
 pub mod Flights
 pub mod Injective
 pub mod Repeated

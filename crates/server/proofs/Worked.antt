@@ -3,6 +3,7 @@
 use Prim.Native.Nat.{ℕ}
 use mathlib.Core.List.{List, [], _∷_}
 use mathlib.Core.Path.{_≡_, refl}
+use lib.ListN.{replicate}
 use Rattle.refusals.specs.Reply.{Reply, Reply.answered, refuse}
 use Rattle.refusals.specs.declared.Call.the-variants.{Reading}
 use Rattle.versions.specs.Pairs.{paired, pairKeepsRule, eachPairKeepsRule, pairsKeepRule}
@@ -46,6 +47,44 @@ server-calls =
       own-order = refl;
       not-chained = refl;
       not-available = refl;
+    }
+
+-- C-17. The same first flight with versions barred for it
+abbrev barring : List ℕ → List ℕ → Reply Act
+barring accepted barred = decide (3 ∷ []) accepted ((3 ∷ 4 ∷ []) ∷ []) barred 3 Given client
+
+pub record BarredCalls : Type 0 where
+  pub four-barred : barring (4 ∷ 3 ∷ []) (4 ∷ []) ≡ answered (use-version 3)
+  pub four-alone-barred : barring (4 ∷ []) (4 ∷ []) ≡ answered negotiate
+  -- "Chosen among them has no effect"
+  pub chosen-barred : barring (4 ∷ 3 ∷ []) (3 ∷ []) ≡ answered (use-version 4)
+  pub both-barred : barring (4 ∷ 3 ∷ []) (3 ∷ 4 ∷ []) ≡ answered (use-version 3)
+  -- "of any value": 0, a reserved one, one in no table, each again
+  pub any-value : barring (4 ∷ 3 ∷ []) (0 ∷ 0x1a2a3a4a ∷ 99 ∷ 0 ∷ 0x1a2a3a4a ∷ 99 ∷ []) ≡ answered (use-version 4)
+  -- information is missing: whatever is barred has no effect
+  pub missing-barred : decide (3 ∷ []) (4 ∷ 3 ∷ []) [] (3 ∷ 4 ∷ []) 3 Missing [] ≡ answered (use-version 3)
+  -- "up to 64", repeats counted; "more: 43", which comes before "negotiate" and after 41
+  pub most-barred : barring (4 ∷ 3 ∷ []) (replicate 64 4) ≡ answered (use-version 3)
+  pub too-many-barred : barring (4 ∷ 3 ∷ []) (replicate 65 4) ≡ refuse Reading 43
+  pub before-negotiate : decide (3 ∷ []) (3 ∷ []) [] (replicate 65 4) 4 Given client ≡ refuse Reading 43
+  pub before-missing : decide (3 ∷ []) (3 ∷ []) [] (replicate 65 4) 3 Missing [] ≡ refuse Reading 43
+  pub after-tables : decide (3 ∷ []) [] [] (replicate 65 4) 3 Given client ≡ refuse Reading 41
+
+pub barred-calls : BarredCalls
+unfolding decide mayUse firstAccepted paired pairsKeepRule eachPairKeepsRule pairKeepsRule elem tableKeepsRule entriesKeepRule usable reserved entries listBytes
+barred-calls =
+    record {
+      four-barred = refl;
+      four-alone-barred = refl;
+      chosen-barred = refl;
+      both-barred = refl;
+      any-value = refl;
+      missing-barred = refl;
+      most-barred = refl;
+      too-many-barred = refl;
+      before-negotiate = refl;
+      before-missing = refl;
+      after-tables = refl;
     }
 
 -- "41 and 43 come before all else, then in this order."

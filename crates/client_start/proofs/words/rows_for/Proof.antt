@@ -30,11 +30,11 @@ loop-holds c =
 sub-k : tie.Need-sub-k Inv-loop μ-loop
 sub-k c = omega arith
 
-mul-pair : tie.Need-mul-pair Inv-loop μ-loop
-mul-pair c = search needs
+mul-excluded : tie.Need-mul-excluded Inv-loop μ-loop
+mul-excluded c = search needs
 
-shared-slice-copy-out-pair : tie.Need-shared-slice-copy-out-pair Inv-loop μ-loop
-shared-slice-copy-out-pair c = omega arith
+shared-slice-copy-out-excluded : tie.Need-shared-slice-copy-out-excluded Inv-loop μ-loop
+shared-slice-copy-out-excluded c = omega arith
 
 array-read-place-of : tie.Need-array-read-place-of Inv-loop μ-loop
 array-read-place-of c = search needs
@@ -117,8 +117,8 @@ rows-for-spec =
     paired-rows-requires
     loop-holds
     sub-k
-    mul-pair
-    shared-slice-copy-out-pair
+    mul-excluded
+    shared-slice-copy-out-excluded
     array-read-place-of
     place-of-requires
     array-read-mark
