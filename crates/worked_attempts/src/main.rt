@@ -1,7 +1,8 @@
 // Document 01's worked calls of the client's attempt beside P1 to P12, run through the public functions: one line for
 // each case, in the order of document 01's sections. "When the desk says no" has one line for each number of a start
-// or an event.
+// or an event. Last are document 02's barred pairs.
 mod attempt_cases; // "How a version is chosen": by the client
+mod barred_cases; // pairs barred for an attempt's flights
 mod event_refusals; // "When the desk says no": 61 to 75
 mod records; // the attempts that the cases go through
 mod say; // words, numbers, versions and refusals, printed
@@ -14,4 +15,5 @@ fn main() {
     start_refusals::all();
     event_refusals::all();
     slip_cases::all();
+    barred_cases::all();
 }

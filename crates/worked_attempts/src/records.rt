@@ -11,13 +11,13 @@ use client_step::step;
 use information::Presence;
 
 // The record of a start that is not refused.
-fn open(table: &[u32], pairs: &[[u32; 2]], original: u32) -> Attempt
-    requires { ⌜ isAccepted (inputOf (now table) (now pairs) original (0xaa ∷ 0xbb ∷ []) (0xcc ∷ [])) ≡ true ⌝ }
+fn open(table: &[u32], pairs: &[[u32; 2]], barred: &[[u32; 2]], original: u32) -> Attempt
+    requires { ⌜ isAccepted (inputOf (now table) (now pairs) (now barred) original (0xaa ∷ 0xbb ∷ []) (0xcc ∷ [])) ≡ true ⌝ }
     ensures { λ r. ⌜ Reachable r ⌝ }
 {
     let destination = [0xaau8, 0xbb];
     let source = [0xccu8];
-    let started = start(table, pairs, original, &destination, &source);
+    let started = start(table, pairs, barred, original, &destination, &source);
     started.attempt
 }
 
@@ -25,21 +25,35 @@ fn open(table: &[u32], pairs: &[[u32; 2]], original: u32) -> Attempt
 pub(crate) fn plain() -> Attempt
     ensures { λ r. ⌜ Reachable r ⌝ }
 {
-    open(&[14, 12, 10], &[], 12)
+    open(&[14, 12, 10], &[], &[], 12)
 }
 
 // Table 3, 4, 1, 2, pairs 1 to 2 and 3 to 4, Original 1: the start of P10 to P12.
 pub(crate) fn paired() -> Attempt
     ensures { λ r. ⌜ Reachable r ⌝ }
 {
-    open(&[3, 4, 1, 2], &[[1, 2], [3, 4]], 1)
+    open(&[3, 4, 1, 2], &[[1, 2], [3, 4]], &[], 1)
+}
+
+// The same with 3 to 4 barred (document 02, C-17).
+pub(crate) fn barring() -> Attempt
+    ensures { λ r. ⌜ Reachable r ⌝ }
+{
+    open(&[3, 4, 1, 2], &[[1, 2], [3, 4]], &[[3, 4]], 1)
+}
+
+// The same with it turned round, 4 to 3, barred, and 1 to 4, from the Original Version.
+pub(crate) fn barring_others() -> Attempt
+    ensures { λ r. ⌜ Reachable r ⌝ }
+{
+    open(&[3, 4, 1, 2], &[[1, 2], [3, 4]], &[[4, 3], [1, 4]], 1)
 }
 
 // Table 14, 1, no pairs, Original 14: the start of P8.
 pub(crate) fn down_to_one() -> Attempt
     ensures { λ r. ⌜ Reachable r ⌝ }
 {
-    open(&[14, 1], &[], 14)
+    open(&[14, 1], &[], &[], 14)
 }
 
 // The record after a datagram.
@@ -87,8 +101,16 @@ pub(crate) fn acted_with_14() -> Attempt
 pub(crate) fn acted_with_3() -> Attempt
     ensures { λ r. ⌜ Reachable r ⌝ }
 {
+    after_4_and_3(paired())
+}
+
+// The record after a packet that lists 4, 3.
+pub(crate) fn after_4_and_3(attempt: Attempt) -> Attempt
+    requires { ⌜ Reachable attempt ⌝ }
+    ensures { λ r. ⌜ Reachable r ⌝ }
+{
     after_datagram(
-        paired(),
+        attempt,
         b"\x80\0\0\0\0\x01\xcc\x02\xaa\xbb\0\0\0\x04\0\0\0\x03",
     )
 }

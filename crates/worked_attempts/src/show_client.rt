@@ -15,7 +15,7 @@ use client_start::start;
 use client_step::step;
 use information::Presence;
 
-// A start with table 14, 12, 10, which may be refused.
+// A start with table 14, 12, 10 and nothing barred, which may be refused.
 pub(crate) fn begin(
     label: &[u8],
     pairs: &[[u32; 2]],
@@ -23,8 +23,20 @@ pub(crate) fn begin(
     destination: &[u8],
     source: &[u8],
 ) {
+    begin_barring(label, pairs, &[], original, destination, source)
+}
+
+// The same with barred pairs.
+pub(crate) fn begin_barring(
+    label: &[u8],
+    pairs: &[[u32; 2]],
+    barred: &[[u32; 2]],
+    original: u32,
+    destination: &[u8],
+    source: &[u8],
+) {
     text(label);
-    let started = start(&[14, 12, 10], pairs, original, destination, source);
+    let started = start(&[14, 12, 10], pairs, barred, original, destination, source);
     let answer = started.answer;
     match answer {
         StartAnswer::Refused(refusal) => refused(refusal),

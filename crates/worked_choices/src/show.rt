@@ -15,7 +15,7 @@ use sets::choose_from_word;
 use sets::count_held;
 use sets::list_word;
 
-// The choice of a server that reads 3, after a first flight.
+// The choice of a server that reads 3, after a first flight for which nothing is barred.
 pub(crate) fn decision(
     label: &[u8],
     accepted: &[u32],
@@ -24,8 +24,21 @@ pub(crate) fn decision(
     presence: Presence,
     bytes: &[u8],
 ) {
+    decision_barring(label, accepted, pairs, &[], flight, presence, bytes)
+}
+
+// The same with versions that are barred for the flight.
+pub(crate) fn decision_barring(
+    label: &[u8],
+    accepted: &[u32],
+    pairs: &[[u32; 2]],
+    barred: &[u32],
+    flight: u32,
+    presence: Presence,
+    bytes: &[u8],
+) {
     text(label);
-    match choose_after_first_flight(&[3], accepted, pairs, flight, presence, bytes) {
+    match choose_after_first_flight(&[3], accepted, pairs, barred, flight, presence, bytes) {
         Decision::Refused(refusal) => refused(refusal),
         Decision::Negotiate => text(b"negotiate"),
         Decision::Use(chosen) => version(b"use ", chosen),
