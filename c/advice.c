@@ -197,6 +197,27 @@ void unanswered(uint32_t refusal)
     too_small++;
 }
 
+/* A conversion that is not well defined: from a version, 0 for every one, to a version. */
+static struct qv_pair no_conversion;
+static size_t conversions_asked;
+
+static int converts(uint32_t from, uint32_t to)
+{
+    conversions_asked++;
+    return (no_conversion.from != 0 && no_conversion.from != from) || no_conversion.to != to;
+}
+
+int flights_convert(uint32_t from, uint32_t to)
+{
+    return converts(from, to);
+}
+
+int flight_converts(const struct flight *flight, uint32_t to)
+{
+    EXPECT(flight->state == FLIGHT_WHOLE);
+    return converts(VERSION_1, to);
+}
+
 /* What goes over the link. */
 
 static const uint8_t destination[OUR_ID_LENGTH] = {0xd1, 0xd1, 0xd1, 0xd1, 0xd1, 0xd1, 0xd1, 0xd1};
@@ -271,8 +292,8 @@ static int was_sent(uint32_t chosen, const uint32_t *available, size_t available
 static struct qv_attempt attempting(void)
 {
     static const uint32_t table[] = {14, 12, 10};
-    struct qv_started started = qv_start(table, 3, NULL, 0, 12, destination, sizeof destination,
-                                         source, sizeof source);
+    struct qv_started started = qv_start(table, 3, NULL, 0, NULL, 0, 12, destination,
+                                         sizeof destination, source, sizeof source);
 
     EXPECT(started.refusal == QV_OK);
     return started.attempt;
@@ -492,8 +513,8 @@ static void accepted_through_a_pair_but_not_offered(void)
     static const uint32_t accepted[] = {VERSION_2, VERSION_1};
     static const uint32_t one[] = {VERSION_1};
     static const struct qv_pair pairs[] = {{VERSION_1, VERSION_2}};
-    struct qv_started started = qv_start(table, 3, pairs, 1, 14, destination, sizeof destination,
-                                         source, sizeof source);
+    struct qv_started started = qv_start(table, 3, pairs, 1, NULL, 0, 14, destination,
+                                         sizeof destination, source, sizeof source);
     struct information information = {QV_MISSING, NULL, 0};
     uint8_t first[QV_MIN_ANSWERED_DATAGRAM], answer[QV_MAX_PACKET], parameters[64];
     uint32_t decision = 0;
@@ -501,15 +522,15 @@ static void accepted_through_a_pair_but_not_offered(void)
 
     EXPECT(started.refusal == QV_OK);
     count = datagram_of(first, 14, NULL, 0);
-    EXPECT(qv_server_choice(one, 1, accepted, 2, pairs, 1, 14, QV_MISSING, NULL, 0, &decision) ==
-           QV_OK);
+    EXPECT(qv_server_choice(one, 1, accepted, 2, pairs, 1, NULL, 0, 14, QV_MISSING, NULL, 0,
+                            &decision) == QV_OK);
     EXPECT(decision == QV_NEGOTIATE);
     EXPECT(qv_write_version_negotiation(first, count, one, 1, 64, answer, sizeof answer, &count) ==
            QV_OK);
     client_datagram(&started.attempt, answer, count);
     EXPECT(was_asked("keep flight ") && asked_version == VERSION_1);
     EXPECT(find_information(sent, sent_len, &information) == QV_OK);
-    EXPECT(qv_server_choice(one, 1, accepted, 2, pairs, 1, VERSION_1, information.presence,
+    EXPECT(qv_server_choice(one, 1, accepted, 2, pairs, 1, NULL, 0, VERSION_1, information.presence,
                             information.bytes, information.len, &decision) == QV_OK);
     EXPECT(decision == VERSION_2);
     count = parameters_of(parameters, VERSION_2, one, 1);
@@ -533,6 +554,128 @@ static void client_and_server(void)
     EXPECT(was_asked("go-on ") && asked_version == VERSION_2);
     client_handshake_done(&attempt, VERSION_2, sent, sent_len);
     EXPECT(was_asked("connected ") && asked_version == VERSION_2);
+}
+
+/* What the page's server does after a flight in version 1 with these parameters, where it bars. */
+static uint32_t decision_barring(const uint8_t *parameters, size_t parameters_len)
+{
+    const struct flight flight = {FLIGHT_WHOLE, parameters, parameters_len};
+    struct information information = {QV_MISSING, NULL, 0};
+    uint32_t decision = 7;
+
+    EXPECT(find_information(parameters, parameters_len, &information) == QV_OK);
+    EXPECT(server_choice_barring(&flight, VERSION_1, &information, &decision) == QV_OK);
+    return decision;
+}
+
+/* Flights that do not convert from version 1 to version 2: the client bars, or the server. */
+static void barring(void)
+{
+    static const struct qv_pair one_to_two = {VERSION_1, VERSION_2}, one_to_one = {0, VERSION_1};
+    static const struct qv_pair everything_converts = {0, 0};
+    static const uint32_t one[] = {VERSION_1};
+    struct qv_attempt attempt, other;
+    uint8_t parameters[64], packet[64];
+    size_t parameters_len;
+
+    /* The client bars: version 2 is not sent, and its packets are dropped. */
+    no_conversion = one_to_two;
+    EXPECT(client_start_barring(&attempt, destination, sizeof destination, source, sizeof source));
+    EXPECT(was_asked("flight ") && asked_version == VERSION_1 && was_sent(VERSION_1, one, 1));
+    client_datagram(&attempt, packet, long_form(packet, VERSION_2, source, destination, NULL, 0));
+    EXPECT(was_asked(""));
+    other = attempt;
+
+    /* An honest server, which bars nothing, uses version 1, and the client completes. */
+    no_conversion = everything_converts;
+    EXPECT(decision_barring(sent, sent_len) == VERSION_1);
+    server_goes_on(VERSION_1);
+    EXPECT(was_asked("go-on ") && was_sent(VERSION_1, server_table, 2));
+    client_handshake_done(&attempt, VERSION_1, sent, sent_len);
+    EXPECT(was_asked("connected ") && asked_version == VERSION_1);
+
+    /* A server that uses version 2 all the same: 72. */
+    parameters_len = parameters_of(parameters, VERSION_2, server_table, 2);
+    client_handshake_done(&other, VERSION_2, parameters, parameters_len);
+    EXPECT(was_asked("close ") && asked_code == QV_VERSION_NEGOTIATION_ERROR);
+    EXPECT(other.end_value == QV_CHOSEN_NOT_OURS);
+
+    /* The client bars nothing and lists both. The server bars, and answers Chosen. */
+    EXPECT(client_start_barring(&attempt, destination, sizeof destination, source, sizeof source));
+    EXPECT(was_asked("flight ") && was_sent(VERSION_1, client_table, 2));
+    EXPECT(decision_barring(sent, sent_len) == VERSION_2);
+    no_conversion = one_to_one; /* Chosen, which has no effect */
+    EXPECT(decision_barring(sent, sent_len) == VERSION_2);
+    no_conversion = one_to_two;
+    EXPECT(decision_barring(sent, sent_len) == VERSION_1);
+    server_goes_on(VERSION_1);
+    EXPECT(was_asked("go-on ") && was_sent(VERSION_1, server_table, 2)); /* all of its list */
+    client_handshake_done(&attempt, VERSION_1, sent, sent_len);
+    EXPECT(was_asked("connected ") && asked_version == VERSION_1);
+
+    /* Information is missing: the flight is not asked about. */
+    conversions_asked = 0;
+    EXPECT(decision_barring(plain, sizeof plain) == VERSION_1 && conversions_asked == 0);
+}
+
+/* A client with the pairs 1 to 2 and 3 to 4 starts in 1, with a pair barred, and is led to 3. */
+static void led_to_3_barring(uint32_t from, uint32_t to)
+{
+    static const uint32_t table[] = {3, 4, 1, 2};
+    static const struct qv_pair pairs[] = {{1, 2}, {3, 4}};
+    const struct qv_pair barred[] = {{from, to}};
+    struct qv_started started = qv_start(table, 4, pairs, 2, barred, 1, 1, destination,
+                                         sizeof destination, source, sizeof source);
+
+    EXPECT(started.refusal == QV_OK);
+    negotiation_with(&started.attempt, 3, source, destination);
+    EXPECT(was_asked("keep flight ") && asked_version == 3);
+}
+
+/* What the page warns of. */
+static void barring_wrongly(void)
+{
+    static const uint32_t three_and_four[] = {3, 4}, fourteen_and_ten[] = {14, 10}, ten[] = {10};
+    static const uint32_t table[] = {14, 12, 10};
+    static const struct qv_pair ten_to_14[] = {{10, 14}}, equal[] = {{1, 1}};
+    struct qv_started started;
+    struct information information = {QV_MISSING, NULL, 0};
+    struct qv_attempt attempt;
+    uint32_t barred[QV_MAX_BARRED + 1] = {14}, decision = 7;
+    uint8_t parameters[64];
+    size_t count;
+
+    /* Barred from the Original Version alone: after the act 4 is listed. */
+    led_to_3_barring(1, 2);
+    EXPECT(was_sent(3, three_and_four, 2));
+    led_to_3_barring(3, 4);
+    EXPECT(was_sent(3, three_and_four, 1));
+
+    /* Left out of the server's Available Versions: a forged packet is not found out. */
+    started = qv_start(table, 3, ten_to_14, 1, NULL, 0, 12, destination, sizeof destination, source,
+                       sizeof source);
+    EXPECT(started.refusal == QV_OK);
+    negotiation_with(&started.attempt, 10, source, destination);
+    EXPECT(was_asked("keep flight ") && was_sent(10, fourteen_and_ten, 2));
+    EXPECT(find_information(sent, sent_len, &information) == QV_OK);
+    EXPECT(qv_server_choice(fourteen_and_ten, 2, fourteen_and_ten, 2, ten_to_14, 1, barred, 1, 10,
+                            information.presence, information.bytes, information.len,
+                            &decision) == QV_OK && decision == 10);
+    attempt = started.attempt;
+    count = parameters_of(parameters, 10, fourteen_and_ten, 2);
+    client_handshake_done(&attempt, 10, parameters, count);
+    EXPECT(was_asked("report close ") && attempt.end_value == QV_DOWNGRADED);
+    count = parameters_of(parameters, 10, ten, 1);
+    client_handshake_done(&started.attempt, 10, parameters, count);
+    EXPECT(was_asked("connected "));
+
+    /* A version barred from itself; more versions than a table can have. */
+    EXPECT(qv_start(table, 3, NULL, 0, equal, 1, 12, NULL, 0, NULL, 0).refusal == QV_BAD_PAIRS);
+    decision = 7;
+    EXPECT(qv_server_choice(ten, 1, ten, 1, NULL, 0, barred, QV_MAX_BARRED + 1, 10,
+                            information.presence, information.bytes, information.len,
+                            &decision) == QV_BAD_PAIRS && decision == 7);
+    EXPECT(qv_close_code(QV_BAD_PAIRS, QV_CALL_READING) == QV_CLOSE_NONE);
 }
 
 /* Given, missing and refused are three answers. */
@@ -562,9 +705,9 @@ static void missing_is_neither_empty_nor_refused(void)
     EXPECT(was_asked("connected "));
     attempt = attempting();
     EXPECT(qv_outcome(&attempt, 12, NULL, 0) == QV_INFORMATION_TOO_SHORT);
-    EXPECT(qv_server_choice(server_table, 2, server_table, 2, server_pairs, 1, VERSION_1, QV_GIVEN,
-                            NULL, 0, &decision) == QV_INFORMATION_TOO_SHORT);
-    EXPECT(qv_server_choice(server_table, 2, server_table, 2, server_pairs, 1, VERSION_1,
+    EXPECT(qv_server_choice(server_table, 2, server_table, 2, server_pairs, 1, NULL, 0, VERSION_1,
+                            QV_GIVEN, NULL, 0, &decision) == QV_INFORMATION_TOO_SHORT);
+    EXPECT(qv_server_choice(server_table, 2, server_table, 2, server_pairs, 1, NULL, 0, VERSION_1,
                             QV_MISSING, NULL, 0, &decision) == QV_OK && decision == VERSION_1);
 
     /* 82, 81, 85, 80: closed with 0x08; the attempt is as it was, to be forgotten. */
@@ -709,11 +852,13 @@ static void not_the_sequence(void)
     negotiation_with(&attempt, 10, source, destination);
     EXPECT(was_asked("keep flight ") && asked_version == 10 && was_sent(10, ten, 1));
     EXPECT(find_information(flight_in_12, flight_len, &information) == QV_OK);
-    EXPECT(qv_server_choice(ten, 1, ten, 1, NULL, 0, 10, information.presence, information.bytes,
-                            information.len, &decision) == QV_CHOSEN_NOT_RECEIVED);
+    EXPECT(qv_server_choice(ten, 1, ten, 1, NULL, 0, NULL, 0, 10, information.presence,
+                            information.bytes, information.len, &decision) ==
+           QV_CHOSEN_NOT_RECEIVED);
     EXPECT(find_information(sent, sent_len, &information) == QV_OK);
-    EXPECT(qv_server_choice(ten, 1, ten, 1, NULL, 0, 10, information.presence, information.bytes,
-                            information.len, &decision) == QV_OK && decision == 10);
+    EXPECT(qv_server_choice(ten, 1, ten, 1, NULL, 0, NULL, 0, 10, information.presence,
+                            information.bytes, information.len, &decision) == QV_OK &&
+           decision == 10);
 
     /* Written into the sequence of the earlier flight, it takes the place of the old one. */
     EXPECT(qv_write_parameters(flight_in_12, flight_len, information.bytes, information.len, bytes,
@@ -730,6 +875,8 @@ int main(void)
     server();
     accepted_through_a_pair_but_not_offered();
     client_and_server();
+    barring();
+    barring_wrongly();
     missing_is_neither_empty_nor_refused();
     faults_of_the_stack();
     room_to_write();

@@ -1,6 +1,6 @@
 /*
- * A client and a server walk-through of quic_version.h, lists as words, transport parameters, the
- * record's layout, and NULL with length 0.
+ * A client and a server walk-through of quic_version.h, both with flights that do not convert to
+ * every version, lists as words, transport parameters, the record's layout, and NULL with length 0.
  * After `scripts/install PREFIX`, with PREFIX/lib/pkgconfig in PKG_CONFIG_PATH:
  *
  *     gcc -std=c99 example.c $(pkg-config --cflags --libs quic-version) -o example
@@ -53,7 +53,7 @@ static void layout(void)
     size_t i;
 
     EXPECT(qv_interface_version() == QV_INTERFACE_VERSION);
-    EXPECT(qv_interface_6() == QV_INTERFACE_VERSION);
+    EXPECT(qv_interface_7() == QV_INTERFACE_VERSION);
     EXPECT(qv_record_size() == sizeof(struct qv_attempt));
     for (i = 0; i < QV_MAX_TABLE; i++) {
         EXPECT(record.rows[i] == UINT64_C(0x1112131415161718));
@@ -96,9 +96,9 @@ static size_t server(uint8_t packet[QV_MAX_PACKET])
     EXPECT(places[QV_SOURCE_START] == 9 && places[QV_SOURCE_END] == 10);
     EXPECT(places[QV_REST_START] == 10 && places[QV_REST_END] == sizeof first_flight);
 
-    /* What to do: 12 cannot be read here. There are no pairs, and no information to look at. */
-    EXPECT(qv_server_choice(readable, 3, accepted, 3, NULL, 0, version, QV_MISSING, NULL, 0,
-                            &decision) == QV_OK);
+    /* What to do: 12 cannot be read here. No pairs, nothing barred, no information to look at. */
+    EXPECT(qv_server_choice(readable, 3, accepted, 3, NULL, 0, NULL, 0, version, QV_MISSING, NULL,
+                            0, &decision) == QV_OK);
     EXPECT(decision == QV_NEGOTIATE);
 
     /* Fewer bytes get no answer, and leave all as found. So does a buffer that is too short. */
@@ -128,19 +128,80 @@ static void server_choice(void)
     static const uint8_t information[] = {0, 0, 0, 3, 0, 0, 0, 3, 0, 0, 0, 4};
     uint32_t decision = 99, refusal;
 
-    EXPECT(qv_server_choice(readable, 1, accepted, 2, there, 1, 3, QV_GIVEN, information,
+    EXPECT(qv_server_choice(readable, 1, accepted, 2, there, 1, NULL, 0, 3, QV_GIVEN, information,
                             sizeof information, &decision) == QV_OK);
     EXPECT(decision == 4);
-    EXPECT(qv_server_choice(readable, 1, accepted, 2, back, 1, 3, QV_GIVEN, information,
+    EXPECT(qv_server_choice(readable, 1, accepted, 2, back, 1, NULL, 0, 3, QV_GIVEN, information,
                             sizeof information, &decision) == QV_OK);
     EXPECT(decision == 3);
 
     /* Malformed information: close with the code. The decision is left as found. */
-    refusal = qv_server_choice(readable, 1, accepted, 2, there, 1, 3, QV_GIVEN, information, 3,
-                               &decision);
+    refusal = qv_server_choice(readable, 1, accepted, 2, there, 1, NULL, 0, 3, QV_GIVEN,
+                               information, 3, &decision);
     EXPECT(refusal == QV_INFORMATION_TOO_SHORT && decision == 3);
     EXPECT(qv_close_code(refusal, QV_CALL_READING) == QV_TRANSPORT_PARAMETER_ERROR);
     EXPECT(qv_close_code(refusal, QV_CALL_WRITING) == QV_CLOSE_NONE);
+}
+
+/*
+ * What that server decides with pair 3 to 4, after a first flight in 3 with Chosen 3, Available 3
+ * and 4, where these versions are barred for the flight.
+ */
+static uint32_t decision_barring(const uint32_t *accepted, size_t accepted_len, uint32_t presence,
+                                 const uint32_t *barred, size_t barred_len)
+{
+    static const uint32_t readable[] = {3};
+    static const struct qv_pair pairs[] = {{3, 4}};
+    static const uint8_t information[] = {0, 0, 0, 3, 0, 0, 0, 3, 0, 0, 0, 4};
+    uint32_t decision = 99;
+
+    EXPECT(qv_server_choice(readable, 1, accepted, accepted_len, pairs, 1, barred, barred_len, 3,
+                            presence, information, sizeof information, &decision) == QV_OK);
+    return decision;
+}
+
+/* Versions that the flight at hand does not convert to. */
+static void server_choice_barring(void)
+{
+    static const uint32_t four_and_three[] = {4, 3}, three[] = {3}, four[] = {4};
+    /* Any value may be barred: 0, a reserved version, one of no table, one of them twice. */
+    static const uint32_t any[] = {0, 0x1a2a3a4au, 9, 9}, any_and_four[] = {0, 0x1a2a3a4au, 4, 4};
+
+    EXPECT(decision_barring(four_and_three, 2, QV_GIVEN, NULL, 0) == 4);
+    EXPECT(decision_barring(four_and_three, 2, QV_GIVEN, any, 4) == 4);
+    EXPECT(decision_barring(four_and_three, 2, QV_GIVEN, four, 1) == 3);
+    EXPECT(decision_barring(four_and_three, 2, QV_GIVEN, any_and_four, 4) == 3);
+
+    /* Chosen among the barred versions has no effect. */
+    EXPECT(decision_barring(four_and_three, 2, QV_GIVEN, three, 1) == 4);
+    EXPECT(decision_barring(four_and_three, 2, QV_GIVEN, four_and_three, 2) == 3);
+
+    /* Nothing is left. */
+    EXPECT(decision_barring(four, 1, QV_GIVEN, NULL, 0) == 4);
+    EXPECT(decision_barring(four, 1, QV_GIVEN, four, 1) == QV_NEGOTIATE);
+
+    /* Where information is missing, nothing that is barred has an effect. */
+    EXPECT(decision_barring(four_and_three, 2, QV_MISSING, NULL, 0) == 3);
+    EXPECT(decision_barring(four_and_three, 2, QV_MISSING, four_and_three, 2) == 3);
+    EXPECT(decision_barring(four, 1, QV_MISSING, four_and_three, 2) == QV_NEGOTIATE);
+}
+
+/* As many barred versions as there may be, and one more: 43, after 41 and before "negotiate". */
+static void server_choice_at_the_limit(void)
+{
+    static const uint32_t four_and_three[] = {4, 3}, three[] = {3};
+    uint32_t barred[QV_MAX_BARRED + 1] = {0}, decision = 99;
+
+    barred[QV_MAX_BARRED - 1] = 4;
+    EXPECT(decision_barring(four_and_three, 2, QV_GIVEN, barred, QV_MAX_BARRED) == 3);
+    EXPECT(qv_server_choice(three, 1, three, 1, NULL, 0, barred, QV_MAX_BARRED + 1, 9, QV_MISSING,
+                            NULL, 0, &decision) == QV_BAD_PAIRS);
+    EXPECT(qv_server_choice(three, 1, three, 1, NULL, 0, barred, QV_MAX_BARRED + 1, 3, QV_GIVEN,
+                            NULL, 0, &decision) == QV_BAD_PAIRS);
+    EXPECT(qv_server_choice(three, 1, three, 0, NULL, 0, barred, QV_MAX_BARRED + 1, 3, QV_GIVEN,
+                            NULL, 0, &decision) == QV_BAD_TABLE);
+    EXPECT(decision == 99);
+    EXPECT(qv_close_code(QV_BAD_PAIRS, QV_CALL_READING) == QV_CLOSE_NONE);
 }
 
 /* An attempt with table 14, 12, 10 whose first flight goes out in 12. */
@@ -149,8 +210,8 @@ static struct qv_attempt start(void)
     static const uint32_t table[] = {14, 12, 10};
     static const uint8_t destination[] = {0xaa, 0xbb};
     static const uint8_t source[] = {0xcc};
-    const struct qv_started started =
-        qv_start(table, 3, NULL, 0, 12, destination, sizeof destination, source, sizeof source);
+    const struct qv_started started = qv_start(table, 3, NULL, 0, NULL, 0, 12, destination,
+                                               sizeof destination, source, sizeof source);
 
     EXPECT(started.refusal == QV_OK);
     EXPECT(started.attempt.attempted == 12 && started.attempt.end_mark == QV_OPEN);
@@ -233,12 +294,12 @@ static void null_with_length_0(void)
     EXPECT(qv_choose(one, 1, NULL, 0, &version) == QV_NOTHING_IN_COMMON);
     EXPECT(qv_choose(NULL, 0, NULL, 0, &version) == QV_BAD_TABLE);
     EXPECT(qv_choose_from_bytes(one, 1, NULL, 0, &version) == QV_NOTHING_IN_COMMON);
-    EXPECT(qv_server_choice(one, 1, one, 1, NULL, 0, 1, QV_GIVEN, NULL, 0, &decision) ==
+    EXPECT(qv_server_choice(one, 1, one, 1, NULL, 0, NULL, 0, 1, QV_GIVEN, NULL, 0, &decision) ==
            QV_INFORMATION_TOO_SHORT);
     EXPECT(version == 7 && decision == 7);
 
     /* Empty connection IDs. */
-    started = qv_start(one, 1, NULL, 0, 1, NULL, 0, NULL, 0);
+    started = qv_start(one, 1, NULL, 0, NULL, 0, 1, NULL, 0, NULL, 0);
     EXPECT(started.refusal == QV_OK);
     EXPECT(qv_datagram(&started.attempt, NULL, 0) == QV_NOT_VERSION_NEGOTIATION);
     EXPECT(qv_outcome_without_information(&started.attempt, 1) == QV_OK);
@@ -309,6 +370,99 @@ static void no_attempt(struct qv_attempt attempt)
     EXPECT(memcmp(&attempt, &found, sizeof attempt) == 0);
 }
 
+/* Document 01's P10: table 3, 4, 1, 2, pairs 1 to 2 and 3 to 4, Original Version 1. */
+static struct qv_started start_barring(const struct qv_pair *barred, size_t barred_len)
+{
+    static const uint32_t table[] = {3, 4, 1, 2};
+    static const struct qv_pair pairs[] = {{1, 2}, {3, 4}};
+    static const uint8_t destination[] = {0xaa, 0xbb};
+    static const uint8_t source[] = {0xcc};
+
+    return qv_start(table, 4, pairs, 2, barred, barred_len, 1, destination, sizeof destination,
+                    source, sizeof source);
+}
+
+/* The own list is these versions. */
+static void owns(const struct qv_attempt *attempt, const uint32_t *versions, size_t versions_len)
+{
+    uint32_t own[QV_MAX_TABLE];
+    size_t count = 0;
+
+    EXPECT(qv_own_list(attempt, own, &count) == QV_OK && count == versions_len);
+    EXPECT(memcmp(own, versions, versions_len * sizeof own[0]) == 0);
+}
+
+/* P10 with pairs barred for the attempt's flights. With 3 to 4 among them Chosen 4 is a 72. */
+static void client_barring(void)
+{
+    /* The packet lists 4 and 3. Chosen 4, Available 4 and 3. */
+    static const uint8_t packet[] = {0xc0, 0, 0, 0, 0, 1, 0xcc, 2, 0xaa,
+                                     0xbb, 0, 0, 0, 4, 0, 0,    0, 3};
+    static const uint8_t authenticated[] = {0, 0, 0, 4, 0, 0, 0, 4, 0, 0, 0, 3};
+    static const uint32_t one_and_two[] = {1, 2}, three_and_four[] = {3, 4};
+    static const struct {
+        struct qv_pair barred[2];
+        size_t barred_len, own_before, own_after;
+        uint32_t refusal;
+    } cases[] = {
+        {{{0, 0}}, 0, 2, 2, QV_OK},
+        {{{3, 4}}, 1, 2, 1, QV_CHOSEN_NOT_OURS},
+        {{{3, 4}, {3, 4}}, 2, 2, 1, QV_CHOSEN_NOT_OURS},
+        {{{1, 2}, {3, 4}}, 2, 1, 1, QV_CHOSEN_NOT_OURS},
+        /* Not turned round, not chained, not read for the Original Version after the packet. */
+        {{{4, 3}}, 1, 2, 2, QV_OK},
+        {{{3, 1}, {1, 4}}, 2, 2, 2, QV_OK},
+        {{{1, 2}}, 1, 1, 2, QV_OK},
+    };
+    size_t i;
+
+    for (i = 0; i < sizeof cases / sizeof cases[0]; i++) {
+        struct qv_started started = start_barring(cases[i].barred, cases[i].barred_len);
+        struct qv_attempt *attempt = &started.attempt;
+
+        EXPECT(started.refusal == QV_OK);
+        owns(attempt, one_and_two, cases[i].own_before);
+        EXPECT(qv_datagram(attempt, packet, sizeof packet) == QV_OK && attempt->attempted == 3);
+        owns(attempt, three_and_four, cases[i].own_after);
+        EXPECT(qv_outcome(attempt, 4, authenticated, sizeof authenticated) == cases[i].refusal);
+        if (cases[i].refusal == QV_OK) {
+            EXPECT(attempt->end_mark == QV_COMPLETED && attempt->end_value == 4);
+        } else {
+            EXPECT(attempt->end_mark == QV_CLOSED && attempt->end_value == cases[i].refusal);
+        }
+    }
+    EXPECT(qv_close_code(QV_CHOSEN_NOT_OURS, QV_CALL_READING) == QV_VERSION_NEGOTIATION_ERROR);
+}
+
+/* Barred pairs that break the pairs' rule: 43, after 41 and before 44. */
+static void bad_barred_pairs(void)
+{
+    static const struct qv_pair bad[] = {
+        {0, 4}, {3, 0}, {0x1a2a3a4au, 4}, {3, 0x1a2a3a4au}, {3, 3}};
+    static const uint32_t one[] = {1};
+    struct qv_pair barred[QV_MAX_PAIRS + 1];
+    struct qv_started started;
+    size_t i;
+
+    for (i = 0; i < sizeof bad / sizeof bad[0]; i++) {
+        started = start_barring(&bad[i], 1);
+        EXPECT(started.refusal == QV_BAD_PAIRS);
+        no_attempt(started.attempt);
+        EXPECT(qv_start(one, 0, NULL, 0, &bad[i], 1, 2, NULL, 0, NULL, 0).refusal == QV_BAD_TABLE);
+        EXPECT(qv_start(one, 1, NULL, 0, &bad[i], 1, 2, NULL, 0, NULL, 0).refusal == QV_BAD_PAIRS);
+    }
+
+    /* As many as there may be, the last of them from the Original Version, and one more. */
+    for (i = 0; i <= QV_MAX_PAIRS; i++) {
+        barred[i].from = i < QV_MAX_PAIRS - 1 ? 2 : 1;
+        barred[i].to = i < QV_MAX_PAIRS - 1 ? 1 : 2;
+    }
+    started = start_barring(barred, QV_MAX_PAIRS);
+    EXPECT(started.refusal == QV_OK);
+    owns(&started.attempt, one, 1);
+    EXPECT(start_barring(barred, QV_MAX_PAIRS + 1).refusal == QV_BAD_PAIRS);
+}
+
 /* Records that could not be an attempt's, and kinds that the header does not name: 255. */
 static void not_valid(void)
 {
@@ -325,7 +479,7 @@ static void not_valid(void)
     no_attempt(attempt);
     memset(&attempt, 0, sizeof attempt);
     no_attempt(attempt);
-    no_attempt(qv_start(one, 0, NULL, 0, 1, NULL, 0, NULL, 0).attempt);
+    no_attempt(qv_start(one, 0, NULL, 0, NULL, 0, 1, NULL, 0, NULL, 0).attempt);
     attempt = start();
     found = attempt;
     EXPECT(qv_event(&attempt, 4, 0, NULL, 0) == QV_NOT_VALID);
@@ -335,7 +489,7 @@ static void not_valid(void)
     EXPECT(qv_read_information(2, information, sizeof information, &chosen, &from, &to) ==
            QV_NOT_VALID);
     EXPECT(qv_write_information(2, 1, one, 1, NULL, 0, &count) == QV_NOT_VALID);
-    EXPECT(qv_server_choice(one, 1, one, 1, NULL, 0, 1, 2, information, sizeof information,
+    EXPECT(qv_server_choice(one, 1, one, 1, NULL, 0, NULL, 0, 1, 2, information, sizeof information,
                             &decision) == QV_NOT_VALID);
     EXPECT(chosen == 7 && decision == 7 && from == 7 && to == 7 && count == 7);
 }
@@ -702,8 +856,12 @@ int main(void)
     parameters_at_the_limits();
     count = server(packet);
     server_choice();
+    server_choice_barring();
+    server_choice_at_the_limit();
     client(packet, count);
     client_refuses(packet, count);
+    client_barring();
+    bad_barred_pairs();
     null_with_length_0();
     null_with_length_0_as_words();
     null_with_length_0_as_parameters();

@@ -33,7 +33,7 @@ extern "C" {
 
 /* The release, and the interface that this header describes. */
 #define QV_RELEASE "0.1.0"
-#define QV_INTERFACE_VERSION 6u
+#define QV_INTERFACE_VERSION 7u
 
 /* On a function that answers a refusal: the compiler warns where the answer is not looked at. */
 #if defined(__GNUC__)
@@ -44,7 +44,8 @@ extern "C" {
 
 /* Limits. */
 #define QV_MAX_TABLE 64u            /* entries of a table of versions */
-#define QV_MAX_PAIRS 1024u          /* pairs of a table of compatible pairs */
+#define QV_MAX_PAIRS 1024u          /* pairs of a table of compatible pairs, and barred pairs */
+#define QV_MAX_BARRED 64u           /* barred versions of a server's choice */
 #define QV_MAX_LIST 16382u          /* entries of a list to choose from */
 #define QV_MAX_ID 20u               /* bytes of an attempt's connection ID */
 #define QV_MAX_DATAGRAM 65535u      /* bytes of a datagram */
@@ -83,7 +84,8 @@ extern "C" {
 #define QV_LIST_TOO_LONG 40u                 /* list to choose from over 16,382 entries */
 #define QV_BAD_TABLE 41u                     /* a table of versions breaks its rule */
 #define QV_NOTHING_IN_COMMON 42u             /* nothing of the table is in the list */
-#define QV_BAD_PAIRS 43u                     /* the pairs break their rule */
+#define QV_BAD_PAIRS 43u                     /* the pairs or the barred pairs break their rule,
+                                                or over 64 versions are barred */
 #define QV_ORIGINAL_NOT_IN_TABLE 44u         /* the Original Version is not in the table */
 #define QV_CONNECTION_ID_TOO_LONG 45u        /* a connection ID over 20 bytes */
 #define QV_CHOSEN_NOT_RECEIVED 51u           /* Chosen is not the first flight's version */
@@ -111,7 +113,11 @@ extern "C" {
 #define QV_TRANSPORT_PARAMETER_ERROR 0x08u   /* RFC 9000 section 20.1 */
 #define QV_VERSION_NEGOTIATION_ERROR 0x11u   /* RFC 9368 section 10.2 */
 
-/* A pair of compatible versions: a first flight in `from` can be converted to `to`. */
+/*
+ * A pair of compatible versions: a first flight in `from` can be converted to `to`. Or a pair that
+ * is barred: for the flights of one attempt that conversion is not well defined, whether the
+ * versions are compatible or not (RFC 9368 section 2.2).
+ */
 struct qv_pair {
     uint32_t from;
     uint32_t to;
@@ -164,7 +170,7 @@ uint32_t qv_interface_version(void);
  * that a library with another interface does not link (with GCC and Clang; else compare
  * qv_interface_version() with QV_INTERFACE_VERSION at the start).
  */
-uint32_t qv_interface_6(void);
+uint32_t qv_interface_7(void);
 #if defined(__GNUC__)
 #if defined(__has_attribute)
 #if __has_attribute(retain)
@@ -174,7 +180,7 @@ uint32_t qv_interface_6(void);
 #ifndef QV_KEPT
 #define QV_KEPT __attribute__((used))
 #endif
-static uint32_t (*const qv_linked_interface)(void) QV_KEPT = qv_interface_6;
+static uint32_t (*const qv_linked_interface)(void) QV_KEPT = qv_interface_7;
 #endif
 
 /* sizeof(struct qv_attempt) as the library has it. */
@@ -203,7 +209,7 @@ uint32_t qv_is_table(const uint32_t *table, size_t table_len);
 
 /*
  * 1 if the pairs keep their rule (0 to QV_MAX_PAIRS, no member 0 or reserved, members differ),
- * else 0.
+ * else 0. Barred pairs have the same rule.
  */
 uint32_t qv_are_pairs(const struct qv_pair *pairs, size_t pairs_len);
 
@@ -398,26 +404,37 @@ uint32_t qv_count_held_from_bytes(const uint32_t *table, size_t table_len, const
                                   size_t bytes_len, size_t *count);
 
 /*
- * The server's choice after a first flight in `version`.
- * Refusals, in order: 255 (unknown presence), 41, 43, 31 to 36, 51. They leave *decision as found.
- * Else: *decision is the version to use, or QV_NEGOTIATE: send a Version Negotiation packet.
+ * The server's choice after a first flight in `version`. `barred` are versions to which the
+ * conversion of this flight is not well defined (RFC 9368 section 2.2): up to QV_MAX_BARRED, of any
+ * value; 0, reserved and repeated ones are allowed.
+ * Refusals, in order: 255 (unknown presence), 41, 43 (pairs that break their rule, or over
+ * QV_MAX_BARRED barred versions), 31 to 36, 51. They leave *decision as found.
+ * Else: *decision is the version to use, or QV_NEGOTIATE: send a Version Negotiation packet. Where
+ * `version` is not readable it is QV_NEGOTIATE. Else it is, with information missing, `version` if
+ * that is accepted; with information given, the first accepted version that is Available and either
+ * is Chosen, or is paired from Chosen and not barred; if there is none, QV_NEGOTIATE. So Chosen
+ * among the barred versions has no effect, and with information missing none of them has.
  */
 #define QV_NEGOTIATE 0u
 QV_CHECKED
 uint32_t qv_server_choice(const uint32_t *readable, size_t readable_len, const uint32_t *accepted,
                           size_t accepted_len, const struct qv_pair *pairs, size_t pairs_len,
-                          uint32_t version, uint32_t presence, const uint8_t *information,
-                          size_t information_len, uint32_t *decision);
+                          const uint32_t *barred, size_t barred_len, uint32_t version,
+                          uint32_t presence, const uint8_t *information, size_t information_len,
+                          uint32_t *decision);
 
 /*
- * Starts an attempt with a table of versions, pairs, the Original Version and our two connection
- * IDs.
- * Refusals, in order: 41, 43, 44, 45. The record is then no attempt.
+ * Starts an attempt with a table of versions, pairs, the pairs barred for this attempt's flights,
+ * the Original Version and our two connection IDs. Barred pairs have the pairs' rule; like pairs
+ * they are neither turned round nor chained, and are read for the version that is attempted at the
+ * time, which need not be the Original Version. One that is not among the pairs has no effect.
+ * Refusals, in order: 41, 43 (pairs or barred pairs), 44, 45. The record is then no attempt.
  */
 QV_CHECKED
 struct qv_started qv_start(const uint32_t *table, size_t table_len, const struct qv_pair *pairs,
-                           size_t pairs_len, uint32_t original, const uint8_t *destination,
-                           size_t destination_len, const uint8_t *source, size_t source_len);
+                           size_t pairs_len, const struct qv_pair *barred, size_t barred_len,
+                           uint32_t original, const uint8_t *destination, size_t destination_len,
+                           const uint8_t *source, size_t source_len);
 
 /*
  * One event on a record, in place. `value` is the version in use of an outcome, and is not read
@@ -440,8 +457,9 @@ uint32_t qv_event(struct qv_attempt *attempt, uint32_t kind, uint32_t value, con
                   size_t bytes_len);
 
 /*
- * The own list of an attempt: every table entry that is the attempted version or is paired from
- * it, in table order. It goes into the client's Version Information as Available Versions.
+ * The own list of an attempt: every table entry that is the attempted version, or is paired from it
+ * by a pair that is not barred, in table order. It goes into the client's Version Information as
+ * Available Versions.
  * `versions` has QV_MAX_TABLE places; neither it nor *count lies in the record, which is only read.
  * Refusal: 255 (see struct qv_attempt), which leaves versions and count as found.
  * Else: *count versions; places past them keep their values.
@@ -517,7 +535,8 @@ static inline const char *qv_refusal_text(uint32_t number)
     case QV_LIST_TOO_LONG: return "the list to choose from has over 16,382 entries";
     case QV_BAD_TABLE: return "a table of versions breaks its rule";
     case QV_NOTHING_IN_COMMON: return "nothing of the table is in the list";
-    case QV_BAD_PAIRS: return "the compatible pairs break their rule";
+    case QV_BAD_PAIRS:
+        return "the compatible or barred pairs break their rule, or over 64 versions are barred";
     case QV_ORIGINAL_NOT_IN_TABLE: return "the Original Version is not in the table";
     case QV_CONNECTION_ID_TOO_LONG: return "a connection ID has over 20 bytes";
     case QV_CHOSEN_NOT_RECEIVED:

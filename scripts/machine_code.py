@@ -1,4 +1,4 @@
-"""The machine code of the static library as scripts/event_code and scripts/reader_code read it."""
+"""The machine code of the static library as scripts/event_code, scripts/reader_code and scripts/call_stack read it."""
 import re
 import subprocess
 import sys

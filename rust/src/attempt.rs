@@ -41,11 +41,12 @@ impl fmt::Debug for End {
     }
 }
 
-/// One attempt of a client: its table, pairs, Original Version and connection IDs, the version that
-/// it attempts now, and its end.
+/// One attempt of a client: its table, pairs, barred pairs, Original Version and connection IDs,
+/// the version that it attempts now, and its end.
 ///
-/// Only [`Attempt::start`] makes one and only its events change it, so that every attempt is what
-/// the proofs are about. It holds no pointer and no lock; one thread at a time may change it.
+/// Only [`Attempt::start`] and [`Attempt::start_barring`] make one and only its events change it,
+/// so that every attempt is what the proofs are about. It holds no pointer and no lock; one thread
+/// at a time may change it.
 #[derive(Clone, PartialEq, Eq)]
 pub struct Attempt {
     // What a start handed back, changed since by events alone.
@@ -73,7 +74,45 @@ impl Attempt {
         destination: &[u8],
         source: &[u8],
     ) -> Result<Attempt, Refusal> {
-        let started = ffi::start(table, pairs, original, destination, source);
+        Attempt::start_barring(table, pairs, &[], original, destination, source)
+    }
+
+    /// As [`Attempt::start`], with pairs that are barred for this attempt's flights: versions may
+    /// be compatible, and yet the conversion of a flight not be well defined (RFC 9368 section
+    /// 2.2). [`Attempt::own_list`] leaves out what they bar, and an outcome's
+    /// [`ChosenNotOurs`](Refusal::ChosenNotOurs) (72) is judged by that shorter list.
+    ///
+    /// Barred pairs have the pairs' rule, see [`are_pairs`](crate::are_pairs). Like pairs they are
+    /// neither turned round nor chained, and are read for the version that is attempted at the
+    /// time, which need not be the Original Version. One that is not among the pairs has no effect.
+    ///
+    /// ```
+    /// # use quic_version::{Attempt, Pair};
+    /// let pairs = [Pair { from: 1, to: 2 }, Pair { from: 1, to: 3 }];
+    /// let attempt = Attempt::start(&[3, 2, 1], &pairs, 1, &[0xd1], &[0x51])?;
+    /// assert_eq!(*attempt.own_list(), [3, 2, 1]);
+    /// let barred = [Pair { from: 1, to: 3 }];
+    /// let attempt = Attempt::start_barring(&[3, 2, 1], &pairs, &barred, 1, &[0xd1], &[0x51])?;
+    /// assert_eq!(*attempt.own_list(), [2, 1]);
+    /// # Ok::<(), quic_version::Refusal>(())
+    /// ```
+    ///
+    /// # Errors
+    ///
+    /// There is then no attempt. In this order:
+    /// - [`BadTable`](Refusal::BadTable) (41): the table breaks its rule;
+    /// - [`BadPairs`](Refusal::BadPairs) (43): the pairs or the barred pairs break theirs;
+    /// - [`OriginalNotInTable`](Refusal::OriginalNotInTable) (44);
+    /// - [`ConnectionIdTooLong`](Refusal::ConnectionIdTooLong) (45): an ID has over 20 bytes.
+    pub fn start_barring(
+        table: &[u32],
+        pairs: &[Pair],
+        barred: &[Pair],
+        original: u32,
+        destination: &[u8],
+        source: &[u8],
+    ) -> Result<Attempt, Refusal> {
+        let started = ffi::start(table, pairs, barred, original, destination, source);
         answer(started.refusal, || Attempt {
             record: started.attempt,
         })
@@ -178,8 +217,9 @@ impl Attempt {
         }
     }
 
-    /// The own list: every table entry that is the attempted version or is paired from it, in table
-    /// order. It goes into the client's Version Information as Available Versions.
+    /// The own list: every table entry that is the attempted version, or is paired from it by a
+    /// pair that is not barred, in table order. It goes into the client's Version Information as
+    /// Available Versions.
     pub fn own_list(&self) -> OwnList {
         let mut own = OwnList {
             versions: [0; MAX_TABLE],

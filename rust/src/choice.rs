@@ -6,14 +6,17 @@ use crate::shown::Version;
 use crate::Refusal;
 use std::fmt;
 
-/// A pair of compatible versions: a first flight in `from` can be converted to `to`. Pairs are
-/// neither turned round nor chained.
+/// A pair of compatible versions: a first flight in `from` can be converted to `to`. Or a pair that
+/// is barred for the flights of one attempt, see [`Attempt::start_barring`]. Pairs are neither
+/// turned round nor chained.
+///
+/// [`Attempt::start_barring`]: crate::Attempt::start_barring
 #[repr(C)]
 #[derive(Clone, Copy, PartialEq, Eq, Hash)]
 pub struct Pair {
     /// The version of the first flight.
     pub from: u32,
-    /// The version that it can be converted to.
+    /// The version that it can be converted to, or cannot if the pair is barred.
     pub to: u32,
 }
 
@@ -45,7 +48,8 @@ pub fn is_table(table: &[u32]) -> bool {
 }
 
 /// Whether compatible pairs keep their rule: 0 to [`MAX_PAIRS`](crate::MAX_PAIRS) of them, no member
-/// 0 or reserved, no pair of equal members. A repeated pair is harmless.
+/// 0 or reserved, no pair of equal members. A repeated pair is harmless. Barred pairs have the same
+/// rule.
 pub fn are_pairs(pairs: &[Pair]) -> bool {
     ffi::are_pairs(pairs) == 1
 }
@@ -122,6 +126,51 @@ pub fn server_choice(
     version: u32,
     information: Option<&[u8]>,
 ) -> Result<Decision, Refusal> {
+    server_choice_barring(readable, accepted, pairs, &[], version, information)
+}
+
+/// As [`server_choice`], with versions that are barred for the flight at hand: its conversion to
+/// them is not well defined, though they may be paired from `version` (RFC 9368 section 2.2). There
+/// are up to [`MAX_BARRED`](crate::MAX_BARRED) of them, of any value: 0, reserved and repeated ones
+/// are allowed, and those of no table.
+///
+/// The answer, after the refusals named first below:
+/// - `version` is not readable: [`Decision::Negotiate`], and the information is not looked at;
+/// - information is missing: `version` if it is accepted, else [`Decision::Negotiate`]. What is
+///   barred has no effect;
+/// - else the first accepted version that is among the client's Available Versions and either is
+///   Chosen, or is paired from Chosen and not barred; if there is none, [`Decision::Negotiate`].
+///   Chosen among the barred versions has no effect.
+///
+/// ```
+/// # use quic_version::{server_choice, server_choice_barring, Decision, Pair};
+/// // A client's Chosen Version 3, Available Versions 3 and 4. The server would rather use 4.
+/// let information = Some(&[0, 0, 0, 3, 0, 0, 0, 3, 0, 0, 0, 4][..]);
+/// let pairs = [Pair { from: 3, to: 4 }];
+/// let decision = server_choice(&[3], &[4, 3], &pairs, 3, information)?;
+/// assert_eq!(decision, Decision::Use(4));
+/// // But this flight does not convert.
+/// let decision = server_choice_barring(&[3], &[4, 3], &pairs, &[4], 3, information)?;
+/// assert_eq!(decision, Decision::Use(3));
+/// # Ok::<(), quic_version::Refusal>(())
+/// ```
+///
+/// # Errors
+///
+/// In this order:
+/// - [`BadTable`](Refusal::BadTable) (41): one of the tables breaks its rule;
+/// - [`BadPairs`](Refusal::BadPairs) (43): the pairs break theirs, or over 64 versions are barred;
+/// - 31 to 36, if `version` is readable and information is given: see
+///   [`read_information`](crate::read_information);
+/// - [`ChosenNotReceived`](Refusal::ChosenNotReceived) (51): Chosen is not `version`.
+pub fn server_choice_barring(
+    readable: &[u32],
+    accepted: &[u32],
+    pairs: &[Pair],
+    barred: &[u32],
+    version: u32,
+    information: Option<&[u8]>,
+) -> Result<Decision, Refusal> {
     let (presence, bytes) = match information {
         Some(bytes) => (GIVEN, bytes),
         None => (MISSING, &[][..]),
@@ -131,6 +180,7 @@ pub fn server_choice(
         readable,
         accepted,
         pairs,
+        barred,
         version,
         presence,
         bytes,

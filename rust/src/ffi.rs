@@ -99,7 +99,7 @@ mod header {
 
     extern "C" {
         pub fn qv_interface_version() -> u32;
-        pub fn qv_interface_6() -> u32;
+        pub fn qv_interface_7() -> u32;
         pub fn qv_record_size() -> usize;
         pub fn qv_known_record() -> Record;
         pub fn qv_close_code(refusal: u32, call: u32) -> u64;
@@ -239,6 +239,8 @@ mod header {
             accepted_len: usize,
             pairs: *const Pair,
             pairs_len: usize,
+            barred: *const u32,
+            barred_len: usize,
             version: u32,
             presence: u32,
             information: *const u8,
@@ -250,6 +252,8 @@ mod header {
             table_len: usize,
             pairs: *const Pair,
             pairs_len: usize,
+            barred: *const Pair,
+            barred_len: usize,
             original: u32,
             destination: *const u8,
             destination_len: usize,
@@ -275,7 +279,7 @@ mod header {
 /// link with a library of another interface. With Rust 1.63, GNU ld drops it as unused; so build.rs
 /// looks for the name, too.
 #[used]
-static INTERFACE: unsafe extern "C" fn() -> u32 = header::qv_interface_6;
+static INTERFACE: unsafe extern "C" fn() -> u32 = header::qv_interface_7;
 
 /// `qv_interface_version`.
 #[inline]
@@ -284,12 +288,12 @@ pub fn interface_version() -> u32 {
     unsafe { header::qv_interface_version() }
 }
 
-/// `qv_interface_6`, for tests/layout.rs alone.
+/// `qv_interface_7`, for tests/layout.rs alone.
 #[allow(dead_code)]
 #[inline]
-pub fn interface_6() -> u32 {
+pub fn interface_7() -> u32 {
     // SAFETY: it takes nothing.
-    unsafe { header::qv_interface_6() }
+    unsafe { header::qv_interface_7() }
 }
 
 /// `qv_record_size`, for tests/layout.rs alone.
@@ -587,12 +591,14 @@ pub fn count_held_from_bytes(table: &[u32], bytes: &[u8], count: &mut usize) -> 
     }
 }
 
-/// `qv_server_choice`.
+/// `qv_server_choice`, with as many arguments as that has.
+#[allow(clippy::too_many_arguments)]
 #[inline]
 pub fn server_choice(
     readable: &[u32],
     accepted: &[u32],
     pairs: &[Pair],
+    barred: &[u32],
     version: u32,
     presence: u32,
     information: &[u8],
@@ -607,6 +613,8 @@ pub fn server_choice(
             accepted.len(),
             pairs.as_ptr(),
             pairs.len(),
+            barred.as_ptr(),
+            barred.len(),
             version,
             presence,
             information.as_ptr(),
@@ -621,6 +629,7 @@ pub fn server_choice(
 pub fn start(
     table: &[u32],
     pairs: &[Pair],
+    barred: &[Pair],
     original: u32,
     destination: &[u8],
     source: &[u8],
@@ -632,6 +641,8 @@ pub fn start(
             table.len(),
             pairs.as_ptr(),
             pairs.len(),
+            barred.as_ptr(),
+            barred.len(),
             original,
             destination.as_ptr(),
             destination.len(),

@@ -4,6 +4,8 @@
 //! and a writer of the [`transport_parameters`] that carry it, the choice of a version from a list,
 //! and lists as words ([`list_word`]). A server gets a writer of Version Negotiation packets and the
 //! choice after a first flight. A client gets an [`Attempt`], from its first version to its end.
+//! Where not every flight converts, though the versions are compatible, [`Attempt::start_barring`]
+//! and [`server_choice_barring`] take what is barred (RFC 9368 section 2.2).
 //!
 //! The work is done by the static library of include/quic_version.h. Every function answers for
 //! every input. A [`Refusal`] is one number of document 01's table, and so is a writer's
@@ -57,7 +59,8 @@ mod words;
 
 pub use attempt::{Attempt, End, OwnList};
 pub use choice::{
-    are_pairs, choose, choose_from_bytes, is_reserved, is_table, server_choice, Decision, Pair,
+    are_pairs, choose, choose_from_bytes, is_reserved, is_table, server_choice,
+    server_choice_barring, Decision, Pair,
 };
 pub use refusal::{Refusal, WriteRefusal};
 pub use wire::{
@@ -82,11 +85,13 @@ pub const VERSION_2: u32 = 0x6b33_43cf;
 /// The release: this crate's version, and that of the library with it.
 pub const RELEASE: &str = env!("CARGO_PKG_VERSION");
 /// The interface that this crate is written for. With a library of another one it does not link.
-pub const INTERFACE_VERSION: u32 = 6;
+pub const INTERFACE_VERSION: u32 = 7;
 /// The most entries of a table of versions.
 pub const MAX_TABLE: usize = ffi::MAX_TABLE;
-/// The most pairs of a table of compatible pairs.
+/// The most pairs of a table of compatible pairs, and the most barred pairs.
 pub const MAX_PAIRS: usize = 1_024;
+/// The most barred versions of a server's choice.
+pub const MAX_BARRED: usize = 64;
 /// The most entries of a list to choose from.
 pub const MAX_LIST: usize = 16_382;
 /// The most bytes of an attempt's connection ID.

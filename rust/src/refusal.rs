@@ -31,7 +31,7 @@ macro_rules! words {
     (40) => { "the list to choose from has over 16,382 entries" };
     (41) => { "a table of versions breaks its rule" };
     (42) => { "nothing of the table is in the list" };
-    (43) => { "the compatible pairs break their rule" };
+    (43) => { "the compatible or barred pairs break their rule, or over 64 versions are barred" };
     (44) => { "the Original Version is not in the table" };
     (45) => { "a connection ID has over 20 bytes" };
     (51) => { "the Chosen Version is not the version of the first flight" };

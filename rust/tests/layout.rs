@@ -23,7 +23,7 @@ fn interface_version() {
         quic_version::interface_version(),
         quic_version::INTERFACE_VERSION
     );
-    assert_eq!(raw::interface_6(), quic_version::INTERFACE_VERSION);
+    assert_eq!(raw::interface_7(), quic_version::INTERFACE_VERSION);
 }
 
 #[test]
@@ -93,7 +93,7 @@ fn known_record_is_refused() {
 #[test]
 fn record_of_a_start() {
     let pairs = [Pair { from: 12, to: 14 }, Pair { from: 10, to: 12 }];
-    let started = raw::start(&[14, 12, 10], &pairs, 12, &[0xd1, 0xd2, 0xd3], &[0x51]);
+    let started = raw::start(&[14, 12, 10], &pairs, &[], 12, &[0xd1, 0xd2, 0xd3], &[0x51]);
     assert_eq!(started.refusal, 0);
     let mut expected = Record {
         table_len: 3,
@@ -108,4 +108,18 @@ fn record_of_a_start() {
     expected.destination[..3].copy_from_slice(&[0xd1, 0xd2, 0xd3]);
     expected.source[0] = 0x51;
     assert_eq!(started.attempt, expected);
+}
+
+/// What is barred is in no field: the record is that of a start without those pairs.
+#[test]
+fn record_of_a_start_that_bars() {
+    let start = |pairs: &[Pair], barred: &[Pair]| {
+        let started = raw::start(&[14, 12, 10], pairs, barred, 12, &[0xd1, 0xd2], &[0x51]);
+        assert_eq!(started.refusal, 0);
+        started.attempt
+    };
+    let pairs = [(12, 14), (10, 12), (10, 14)].map(Pair::from);
+    let barred = [(10, 12), (12, 14), (14, 10)].map(Pair::from);
+    assert_eq!(start(&pairs, &barred), start(&pairs[2..], &[]));
+    assert_eq!(start(&pairs, &barred).rows[..3], [0b001, 0b010, 0b101]);
 }

@@ -2,7 +2,7 @@
 -- nothing barred what it said before there were any; the earlier right-hand sides are written out. Then the laws: the
 -- attempted version may always be answered, a barred pair never, and barring more leaves a part.
 use Prim.Native.Nat.{ℕ}
-use mathlib.Core.Bool.{Bool, true, false, not, _&&_, _||_, and-true, and-false, or-false, false≢true}
+use mathlib.Core.Bool.{Bool, true, false, cond, not, _&&_, _||_, and-true, and-false, or-false, false≢true}
 use mathlib.Core.List.{List, [], _∷_, _++_}
 use mathlib.Core.Path.{_≡_, refl, sym, ap, _∙_}
 use lib.Dec.{eqb, ltb}
@@ -15,7 +15,7 @@ use Rattle.versions.specs.Table.{elem, tableKeepsRule}
 use Rattle.versions.specs.Words.{entriesWhere, wordWhere}
 use Rattle.versions.proofs.Bits.{word-same, entries-same}
 use Rattle.versions.proofs.Members.{elem-where}
-use Rattle.versions.proofs.Repeated.{paired-inserted, its-members, paired-append}
+use Rattle.versions.proofs.Repeated.{pairs?, paired-inserted, its-members, paired-append}
 use Rattle.attempt.specs.Limits.{maxID}
 use Rattle.attempt.specs.OwnList.{mayBeAnswered, ownList, wordFor, rowsFor}
 use Rattle.attempt.specs.Start.{inputOf, startRules}
@@ -103,15 +103,45 @@ pub barred-not-there : (pairs bs cs : List (List ℕ)) (pair : List ℕ) → pai
 unfolding mayBeAnswered
 barred-not-there pairs bs cs pair absent attempted v =
     ap (λ (b : Bool). eqb v attempted || (paired pairs attempted v && not b)) (paired-inserted bs cs pair attempted v) ∙
-    ap (λ (b : Bool). eqb v attempted || b) (go (eqb (fromOf pair) attempted && eqb (toOf pair) v) refl)
+    ap (λ (b : Bool). eqb v attempted || b) (go (pairs? pair attempted v) refl)
   where
     others : Bool
     others = paired (bs ++ cs) attempted v
 
-    go : (here : Bool) → (eqb (fromOf pair) attempted && eqb (toOf pair) v) ≡ here →
+    go : (here : Bool) → pairs? pair attempted v ≡ here →
         (paired pairs attempted v && not (here || others)) ≡ (paired pairs attempted v && not others)
     go true e =
         let same = its-members pair attempted v e in
         let none : paired pairs attempted v ≡ false = rw (← same .0, ← same .1) absent in
         rw none
     go false e = refl
+
+-- Barring pairs is leaving them out: the pairs that are not barred, with nothing barred, let the same be answered
+unfoldable pub leftOf : List (List ℕ) → List (List ℕ) → List (List ℕ)
+leftOf [] barred = []
+leftOf (p ∷ ps) barred = cond (paired barred (fromOf p) (toOf p)) (leftOf ps barred) (p ∷ leftOf ps barred)
+
+left-paired : (ps barred : List (List ℕ)) (a b : ℕ) → paired (leftOf ps barred) a b ≡ (paired ps a b && not (paired barred a b))
+unfolding leftOf paired
+left-paired [] barred a b = refl
+left-paired (p ∷ ps) barred a b = go (paired barred (fromOf p) (toOf p)) refl (pairs? p a b) refl (left-paired ps barred a b)
+  where
+    -- what is barred of the first pair is barred of the two versions, where they are its members
+    same : (out : Bool) → paired barred (fromOf p) (toOf p) ≡ out → pairs? p a b ≡ true → paired barred a b ≡ out
+    same out e f = let is = its-members p a b f in rw (← is .0, ← is .1) e
+
+    go : (out : Bool) → paired barred (fromOf p) (toOf p) ≡ out → (here : Bool) → pairs? p a b ≡ here →
+        paired (leftOf ps barred) a b ≡ (paired ps a b && not (paired barred a b)) →
+        paired (cond out (leftOf ps barred) (p ∷ leftOf ps barred)) a b ≡ ((here || paired ps a b) && not (paired barred a b))
+    go true e true f ih = ih ∙ rw (same true e f) (and-false (paired ps a b))
+    go true e false f ih = ih
+    go false e true f ih = rw (f, same false e f)
+    go false e false f ih = rw f ih
+
+pub barring-leaves-out : (pairs barred : List (List ℕ)) (attempted v : ℕ) →
+    mayBeAnswered pairs barred attempted v ≡ mayBeAnswered (leftOf pairs barred) [] attempted v
+barring-leaves-out pairs barred attempted v =
+    sym
+    (answered-as-before (leftOf pairs barred) attempted v ∙
+    ap (λ (b : Bool). eqb v attempted || b) (left-paired pairs barred attempted v) ∙
+    unfold mayBeAnswered in refl)

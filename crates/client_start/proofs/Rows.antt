@@ -15,7 +15,7 @@ use Rattle.versions.specs.Limits.{maxPairs, maxTable}
 use Rattle.versions.specs.Pairs.{fromOf, toOf, paired, pairKeepsRule, eachPairKeepsRule, pairsKeepRule}
 use Rattle.versions.specs.Table.{elem, placeOf, entriesKeepRule, tableKeepsRule}
 use Rattle.versions.specs.Version.{usable}
-use Rattle.versions.specs.Words.{wordBits, wordWhere, wordFrom, marked}
+use Rattle.versions.specs.Words.{wordBits, wordWhere, marked}
 use Rattle.versions.proofs.Bits.{word-same, none-set, word-without}
 use Rattle.versions.proofs.Lists.{drop-next, table-entries, place-absent}
 use Rattle.versions.proofs.Marked.{once, word-of-all, marked-set, equal-turned, from-none, from-pair, from-other}
@@ -204,26 +204,35 @@ module _ (ts : List ℕ) (kept : tableKeepsRule ts ≡ true) (ps : List (List �
       (places-other ts entries rest [] (pair ∷ rest) [] (fromOf pair) (marked ts (toOf pair))
       (λ v. word-pair ts entries v pair rest) (λ v. word-other ts entries v pair rest) f)
 
-  -- The same walk down barred pairs
-  module _ (pairs : List (List ℕ)) (rule : pairsKeepRule ps ≡ true) where
-    pub barred-hit : placeOf (fromOf pair) ts < length ts →
-        let rows = padded maxTable (rowsFor ts ts pairs (drop j ps)) in
-        let from = placeOf (fromOf pair) ts in
-        let bit = marked (take wordBits ts) (toOf pair) 0 in
-        set rows from (bitXor (bitOr (getD rows from 0) bit) bit) ≡ padded maxTable (rowsFor ts ts pairs (drop k ps))
-    barred-hit f =
-        let entries = table-entries ts kept in
-        rw (word-of-all ts kept, e, drop-next ps k [] h)
-        (places-changed ts entries pairs rest pairs (pair ∷ rest) (fromOf pair) (unmarked ts (toOf pair))
-        (λ v. word-barred ts entries pairs pair rest v (members-differ ps k rule h)) (λ v. word-not-barred ts entries pairs pair rest v) f)
+-- The same walk down the barred pairs, which keep the rule of pairs
+module _ (ts : List ℕ) (kept : tableKeepsRule ts ≡ true) (ps bs : List (List ℕ)) (rule : pairsKeepRule bs ≡ true) (k j : ℕ)
+    (e : j ≡ k + 1) (h : k < length bs) where
+  abbrev excluded : List ℕ
+  excluded = getD bs k []
 
-    pub barred-miss : length ts ≤ placeOf (fromOf pair) ts →
-        padded maxTable (rowsFor ts ts pairs (drop j ps)) ≡ padded maxTable (rowsFor ts ts pairs (drop k ps))
-    barred-miss f =
-        let entries = table-entries ts kept in
-        rw (e, drop-next ps k [] h)
-        (places-other ts entries pairs rest pairs (pair ∷ rest) (fromOf pair) (unmarked ts (toOf pair))
-        (λ v. word-barred ts entries pairs pair rest v (members-differ ps k rule h)) (λ v. word-not-barred ts entries pairs pair rest v) f)
+  abbrev others : List (List ℕ)
+  others = drop (k + 1) bs
+
+  pub barred-hit : placeOf (fromOf excluded) ts < length ts →
+      let rows = padded maxTable (rowsFor ts ts ps (drop j bs)) in
+      let from = placeOf (fromOf excluded) ts in
+      let bit = marked (take wordBits ts) (toOf excluded) 0 in
+      set rows from (bitXor (bitOr (getD rows from 0) bit) bit) ≡ padded maxTable (rowsFor ts ts ps (drop k bs))
+  barred-hit f =
+      let entries = table-entries ts kept in
+      rw (word-of-all ts kept, e, drop-next bs k [] h)
+      (places-changed ts entries ps others ps (excluded ∷ others) (fromOf excluded) (unmarked ts (toOf excluded))
+      (λ v. word-barred ts entries ps excluded others v (members-differ bs k rule h))
+      (λ v. word-not-barred ts entries ps excluded others v) f)
+
+  pub barred-miss : length ts ≤ placeOf (fromOf excluded) ts →
+      padded maxTable (rowsFor ts ts ps (drop j bs)) ≡ padded maxTable (rowsFor ts ts ps (drop k bs))
+  barred-miss f =
+      let entries = table-entries ts kept in
+      rw (e, drop-next bs k [] h)
+      (places-other ts entries ps others ps (excluded ∷ others) (fromOf excluded) (unmarked ts (toOf excluded))
+      (λ v. word-barred ts entries ps excluded others v (members-differ bs k rule h))
+      (λ v. word-not-barred ts entries ps excluded others v) f)
 
 pub rows-end : (ts : List ℕ) (ps : List (List ℕ)) →
     padded maxTable (rowsFor ts ts [] []) ≡ padded maxTable (rowsFor ts ts (drop (length ps) ps) [])

@@ -49,7 +49,7 @@ impl Refusal {
     pub const BAD_TABLE: Refusal = Refusal(41);
     // 42: nothing of the table is in the list.
     pub const NOTHING_IN_COMMON: Refusal = Refusal(42);
-    // 43: the pairs break their rule.
+    // 43: the pairs or the barred pairs break their rule, or over 64 versions are barred.
     pub const BAD_PAIRS: Refusal = Refusal(43);
     // 44: the Original Version is not in the table.
     pub const ORIGINAL_NOT_IN_TABLE: Refusal = Refusal(44);

@@ -3,10 +3,10 @@
 -- only as Chosen, and only whether a version is among them matters.
 use Prim.Native.Nat.{ℕ}
 use mathlib.Core.Bool.{Bool, true, false, cond, not, _&&_, _||_, and-true, or-false, false≢true}
-use mathlib.Core.List.{List, [], _∷_, _++_}
+use mathlib.Core.List.{List, [], _∷_}
 use mathlib.Core.Path.{_≡_, refl, sym, ap, _∙_}
 use native.Mathlib.Omega.{arith}
-use lib.Dec.{eqb, ltb}
+use lib.Dec.{eqb}
 use borrow.Author.Tests.{eqb-true}
 use Rattle.refusals.specs.Reply.{Reply.answered}
 use Rattle.refusals.specs.Rule.{Rule._when_}
@@ -14,7 +14,7 @@ use Rattle.refusals.proofs.Rules.{both-true}
 use Rattle.versions.specs.Pairs.{paired, pairsKeepRule}
 use Rattle.versions.specs.Table.{elem, tableKeepsRule}
 use Rattle.information.specs.declared.Presence.the-variants.{Missing}
-use Rattle.server.specs.FirstFlight.{Act, Act.negotiate, Act.use-version, serverRules, mayUse, firstAccepted, withInformation}
+use Rattle.server.specs.FirstFlight.{Act.negotiate, Act.use-version, serverRules, mayUse, firstAccepted, withInformation}
 
 -- Nothing is barred: each as it was before C-17
 module _ (pairs : List (List ℕ)) (chosen : ℕ) (available : List ℕ) where

@@ -1,23 +1,42 @@
-//! The aims of C-11, and what was measured beside each.
+//! The aims of C-11 and C-17, and what was measured beside each.
 
+use crate::barring;
 use crate::hostile::Worst;
 use crate::text::{digits, title};
 
+/// The highest ratio of a start, and of a server's choice, with as much barred as there may be, to
+/// plain Rust that does the same.
+const BARRING: f64 = 2.0;
 /// The highest ratio of 12 parameters read and written, to plain Rust that does the same.
 const READ_AND_WRITTEN: f64 = 2.0;
 /// The highest ratio of a long hostile sequence, to a pass of plain Rust that only steps over it.
 pub const HOSTILE: f64 = 60.0;
 
-pub fn print(read_and_written: Option<f64>, hostile: &[Worst]) {
-    if read_and_written.is_none() && hostile.is_empty() {
+pub fn print(barring: &barring::Worst, read_and_written: Option<f64>, hostile: &[Worst]) {
+    let ratios = [
+        ("start, 1,024 pairs barred", BARRING, barring.start),
+        (
+            "server's choice, 64 versions barred",
+            BARRING,
+            barring.choice,
+        ),
+        (
+            "12 parameters read and written",
+            READ_AND_WRITTEN,
+            read_and_written,
+        ),
+    ];
+    if ratios.iter().all(|aim| aim.2.is_none()) && hostile.is_empty() {
         return;
     }
     println!();
     title("Aims");
     println!("| aim | at most | seen | kept |");
     println!("|---|---:|---:|---|");
-    if let Some(ratio) = read_and_written {
-        line("12 parameters read and written", READ_AND_WRITTEN, ratio);
+    for (aim, at_most, seen) in ratios {
+        if let Some(ratio) = seen {
+            line(aim, at_most, ratio);
+        }
     }
     for worst in hostile {
         let name = format!("{}; the worst: {}", worst.shape, worst.sequence);

@@ -119,8 +119,8 @@ fn table_and_pairs(entries: usize, count: usize) -> (Vec<u32>, Vec<Pair>) {
     (versions, pairs)
 }
 
-/// A full table, and as many pairs as there may be.
-fn full() -> (Vec<u32>, Vec<Pair>) {
+/// A full table, and as many pairs as there may be, from each entry to the 16 that follow it.
+pub fn full() -> (Vec<u32>, Vec<Pair>) {
     table_and_pairs(MAX_TABLE, MAX_PAIRS)
 }
 
@@ -271,7 +271,7 @@ fn full_events(table: &mut Table) {
         .outcome_row(table, &name, shared, Some(&bytes));
 
     // The crate has no such event: both sides by their numbers.
-    let record = Part(raw::start(&versions, &pairs, original, &destination, &source).attempt);
+    let record = Part(raw::start(&versions, &pairs, &[], original, &destination, &source).attempt);
     let packet = &packet[..];
     let refused = u32::from(Refusal::NotValid.number());
     assert_eq!(

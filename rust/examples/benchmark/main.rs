@@ -12,10 +12,11 @@
 //! first row of the events is that copy alone.
 //!
 //! A second table has hostile transport parameters, beside a pass of plain Rust that only steps over
-//! them. Last are the aims of C-11, and whether they were kept.
+//! them. Last are the aims of C-11 and C-17, and whether they were kept.
 
 mod aims;
 mod attempts;
+mod barring;
 mod choices;
 mod hostile;
 mod measure;
@@ -47,12 +48,13 @@ fn main() {
     wire::rows(&mut table);
     attempts::rows(&mut table);
     choices::rows(&mut table);
+    let barring = barring::rows(&mut table);
     words::rows(&mut table);
     versions::rows(&mut table);
     let read_and_written = parameters::rows(&mut table);
     let hostile = hostile::rows(&mut table);
     table.end();
-    aims::print(read_and_written, &hostile);
+    aims::print(&barring, read_and_written, &hostile);
     println!();
     println!(
         "Record: {} bytes.",

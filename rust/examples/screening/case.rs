@@ -76,7 +76,7 @@ impl Case {
         let room = MAX_DATAGRAM - HEADER - 4 * list.len();
         let length = if 2 * ID <= room { ID } else { 0 };
         let (destination, source) = (id(0xd1, length), id(0x51, length));
-        let started = raw::start(table, &[], original, &destination, &source);
+        let started = raw::start(table, &[], &[], original, &destination, &source);
         let attempt = Attempt::start(table, &[], original, &destination, &source);
         let case = Case {
             attempt: Part(attempt.expect("the table is one, with the Original Version in it")),
@@ -121,7 +121,7 @@ impl Case {
         let (table, original) = (&self.client.table[..], self.client.original);
         let id = [0xee; MAX_ID];
         let (record, datagram) = (
-            &raw::start(table, &[], original, &id, &id).attempt,
+            &raw::start(table, &[], &[], original, &id, &id).attempt,
             &self.datagram[..],
         );
         let event = || raw::event(&mut record.clone(), DATAGRAM, 0, opaque(datagram));

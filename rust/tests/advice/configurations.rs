@@ -7,10 +7,10 @@ use quic_version::{
 };
 
 /// The versions of the small world that is gone through.
-const WORLD: [u32; 3] = [1, 2, 3];
+pub const WORLD: [u32; 3] = [1, 2, 3];
 
 /// Every list of distinct versions of the world that is not empty.
-fn tables() -> Vec<Vec<u32>> {
+pub fn tables() -> Vec<Vec<u32>> {
     let mut tables: Vec<Vec<u32>> = WORLD.iter().map(|v| vec![*v]).collect();
     let mut from = 0;
     while from < tables.len() {
@@ -26,7 +26,7 @@ fn tables() -> Vec<Vec<u32>> {
 }
 
 /// Every set of the given things.
-fn sets<T: Copy>(of: &[T]) -> Vec<Vec<T>> {
+pub fn sets<T: Copy>(of: &[T]) -> Vec<Vec<T>> {
     (0..1usize << of.len())
         .map(|set| {
             let held = |at: &usize| set >> at & 1 == 1;
@@ -35,8 +35,8 @@ fn sets<T: Copy>(of: &[T]) -> Vec<Vec<T>> {
         .collect()
 }
 
-/// Every set of pairs.
-fn pairs() -> Vec<Vec<Pair>> {
+/// Every pair.
+pub fn all_pairs() -> Vec<Pair> {
     let mut all = Vec::new();
     for from in WORLD {
         for to in WORLD {
@@ -45,11 +45,16 @@ fn pairs() -> Vec<Vec<Pair>> {
             }
         }
     }
-    sets(&all)
+    all
+}
+
+/// Every set of pairs.
+pub fn pairs() -> Vec<Vec<Pair>> {
+    sets(&all_pairs())
 }
 
 /// Every client of the world, with every set of pairs.
-fn clients(with: &mut dyn FnMut(Client<'_>)) {
+pub fn clients(with: &mut dyn FnMut(Client<'_>)) {
     for table in &tables() {
         for pairs in &pairs() {
             for original in table {
@@ -77,11 +82,9 @@ fn is_honest(end: End) -> bool {
     )
 }
 
-/// Accepted, offered and Available hold the same versions, in whatever order, and each of them is
-/// readable. Readable may hold more.
-#[test]
-fn the_safe_rule() {
-    let (mut links, mut acted, mut other_version) = (0, 0, 0);
+/// Every server that keeps the safe rule, with every set of pairs: accepted, offered and Available
+/// hold the same versions, in whatever order, and each of them is readable. Readable may hold more.
+fn safe_servers(with: &mut dyn FnMut(Server<'_>)) {
     let pairs = pairs();
     for accepted in &tables() {
         let offered = sorted(accepted);
@@ -93,27 +96,40 @@ fn the_safe_rule() {
         for more in sets(&others) {
             let readable = [&offered[..], &more[..]].concat();
             for pairs in &pairs {
-                let server = Server {
+                with(Server {
                     readable: &readable,
                     accepted,
                     offered: &offered,
                     available: &available,
                     pairs,
-                };
-                clients(&mut |client| {
-                    let end = link(client, server);
-                    assert!(is_honest(end), "{:?} {:?} {:?}", end, client, server);
-                    links += 1;
-                    if let End::Completed { attempted, in_use } = end {
-                        acted += u32::from(attempted != client.original);
-                        other_version += u32::from(attempted != in_use);
-                    }
                 });
             }
         }
     }
+}
+
+/// Every client and every server that keeps the safe rule, by a link: each end is honest.
+pub fn all_are_safe(link: impl Fn(Client<'_>, Server<'_>) -> End) {
+    let (mut links, mut acted, mut other_version) = (0, 0, 0);
+    safe_servers(&mut |server| {
+        clients(&mut |client| {
+            let end = link(client, server);
+            assert!(is_honest(end), "{:?} {:?} {:?}", end, client, server);
+            links += 1;
+            if let End::Completed { attempted, in_use } = end {
+                acted += u32::from(attempted != client.original);
+                other_version += u32::from(attempted != in_use);
+            }
+        });
+    });
     // The rule is not kept by a world in which nothing happens.
     assert!(links > 4_000_000 && acted > 100_000 && other_version > 100_000);
+}
+
+/// With nothing barred.
+#[test]
+fn the_safe_rule() {
+    all_are_safe(link);
 }
 
 /// A server without pairs may list fewer Available Versions than it offers, but not none.

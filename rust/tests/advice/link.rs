@@ -91,25 +91,30 @@ pub fn negotiation(version: u32, offered: &[u32]) -> Result<Vec<u8>, WriteRefusa
 
 /// A link from its first flight to its end.
 pub fn link(client: Client<'_>, server: Server<'_>) -> End {
-    let mut attempt = Attempt::start(
-        client.table,
-        client.pairs,
-        client.original,
-        &DESTINATION,
-        &SOURCE,
-    )
-    .unwrap();
-    loop {
-        let attempted = attempt.attempted();
-        let sent = information(Sender::Client, attempted, &attempt.own_list());
-        let decision = server_choice(
+    let (table, pairs) = (client.table, client.pairs);
+    let attempt = Attempt::start(table, pairs, client.original, &DESTINATION, &SOURCE);
+    link_from(attempt.unwrap(), server, |version, information| {
+        server_choice(
             server.readable,
             server.accepted,
             server.pairs,
-            attempted,
-            Some(&sent),
-        );
-        match decision.unwrap() {
+            version,
+            information,
+        )
+    })
+}
+
+/// The same from an attempt that was started, with a server that chooses after a first flight in a
+/// version with this Version Information.
+pub fn link_from(
+    mut attempt: Attempt,
+    server: Server<'_>,
+    choice: impl Fn(u32, Option<&[u8]>) -> Result<Decision, Refusal>,
+) -> End {
+    loop {
+        let attempted = attempt.attempted();
+        let sent = information(Sender::Client, attempted, &attempt.own_list());
+        match choice(attempted, Some(&sent)).unwrap() {
             Decision::Use(in_use) => {
                 let answer = information(Sender::Server, in_use, server.available);
                 return match attempt.outcome(in_use, Some(&answer)) {

@@ -1,5 +1,6 @@
 //! Runs what docs/INTEGRATION.md advises, and what it warns of.
 
+mod barring;
 mod configurations;
 mod link;
 mod parameters;
@@ -31,7 +32,8 @@ fn code_of_the_page() {
         [
             include_str!("page/words.rs"),
             include_str!("page/client.rs"),
-            include_str!("page/server.rs")
+            include_str!("page/server.rs"),
+            include_str!("page/barring.rs")
         ]
     );
 }

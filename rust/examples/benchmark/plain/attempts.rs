@@ -37,7 +37,7 @@ impl std::ops::Deref for OwnList {
 }
 
 impl PlainAttempt {
-    #[inline(never)]
+    #[inline]
     pub fn start(
         table: &[u32],
         pairs: &[Pair],
@@ -45,10 +45,22 @@ impl PlainAttempt {
         destination: &[u8],
         source: &[u8],
     ) -> Result<PlainAttempt, u8> {
+        PlainAttempt::start_barring(table, pairs, &[], original, destination, source)
+    }
+
+    #[inline(never)]
+    pub fn start_barring(
+        table: &[u32],
+        pairs: &[Pair],
+        barred: &[Pair],
+        original: u32,
+        destination: &[u8],
+        source: &[u8],
+    ) -> Result<PlainAttempt, u8> {
         if !is_table(table) {
             return Err(41);
         }
-        if !are_pairs(pairs) {
+        if !are_pairs(pairs) || !are_pairs(barred) {
             return Err(43);
         }
         if !table.contains(&original) {
@@ -84,6 +96,14 @@ impl PlainAttempt {
             if let Some(from) = place(pair.from) {
                 if let Some(to) = place(pair.to) {
                     attempt.rows[from] |= 1 << to;
+                }
+            }
+        }
+        // The members of a barred pair differ, so no entry loses its own bit.
+        for pair in barred {
+            if let Some(from) = place(pair.from) {
+                if let Some(to) = place(pair.to) {
+                    attempt.rows[from] &= !(1 << to);
                 }
             }
         }

@@ -2,7 +2,7 @@
 
 use super::lists;
 use super::wire::read_information;
-use quic_version::{Decision, Pair, MAX_LIST, MAX_PAIRS, MAX_TABLE};
+use quic_version::{Decision, Pair, MAX_BARRED, MAX_LIST, MAX_PAIRS, MAX_TABLE};
 
 pub fn is_reserved(version: u32) -> bool {
     version & 0x0f0f_0f0f == 0x0a0a_0a0a
@@ -66,7 +66,7 @@ pub fn choose_from_bytes(table: &[u32], bytes: &[u8]) -> Result<u32, u8> {
     Err(42)
 }
 
-#[inline(never)]
+#[inline]
 pub fn server_choice(
     readable: &[u32],
     accepted: &[u32],
@@ -74,10 +74,22 @@ pub fn server_choice(
     version: u32,
     information: Option<&[u8]>,
 ) -> Result<Decision, u8> {
+    server_choice_barring(readable, accepted, pairs, &[], version, information)
+}
+
+#[inline(never)]
+pub fn server_choice_barring(
+    readable: &[u32],
+    accepted: &[u32],
+    pairs: &[Pair],
+    barred: &[u32],
+    version: u32,
+    information: Option<&[u8]>,
+) -> Result<Decision, u8> {
     if !is_table(readable) || !is_table(accepted) {
         return Err(41);
     }
-    if !are_pairs(pairs) {
+    if !are_pairs(pairs) || barred.len() > MAX_BARRED {
         return Err(43);
     }
     if !readable.contains(&version) {
@@ -93,13 +105,22 @@ pub fn server_choice(
     }
     // Over the pairs once, as the library does.
     let place = |version| accepted.iter().position(|v| *v == version);
-    let mut usable: u64 = place(chosen).map_or(0, |place| 1 << place);
+    let mut usable: u64 = 0;
     for pair in pairs {
         if pair.from == chosen {
             if let Some(place) = place(pair.to) {
                 usable |= 1 << place;
             }
         }
+    }
+    for version in barred {
+        if let Some(place) = place(*version) {
+            usable &= !(1 << place);
+        }
+    }
+    // Last, so that Chosen among the barred versions has no effect.
+    if let Some(place) = place(chosen) {
+        usable |= 1 << place;
     }
     for (place, version) in accepted.iter().enumerate() {
         if usable >> place & 1 == 1 && lists(available, *version) {

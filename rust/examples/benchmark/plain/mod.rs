@@ -9,7 +9,7 @@ mod wire;
 mod words;
 
 pub use attempts::PlainAttempt;
-pub use choices::{choose, choose_from_bytes, server_choice};
+pub use choices::{choose, choose_from_bytes, server_choice, server_choice_barring};
 pub use parameters::{
     find_version_information, read_integer, step_over, write_integer, write_version_information,
 };

@@ -154,6 +154,50 @@ fn drops_what_it_did_not_ask_for() {
     assert_eq!(client.asked(), []);
 }
 
+/// The page's client after its first flight, where that does not convert to version 2.
+fn barring() -> Client<Around> {
+    let pairs = [(VERSION_1, VERSION_2), (VERSION_2, VERSION_1)].map(Pair::from);
+    let (table, barred) = ([VERSION_2, VERSION_1], &pairs[..1]);
+    let attempt =
+        Attempt::start_barring(&table, &pairs, barred, VERSION_1, &DESTINATION, &SOURCE).unwrap();
+    let mut client = Client {
+        attempt,
+        layers: Around::default(),
+    };
+    client.first_flight();
+    client
+}
+
+/// A barred version is not sent; its packets are dropped, and the page's server does not use it.
+#[test]
+fn barred_versions_are_not_listed() {
+    let mut client = barring();
+    let sent = carrying(&information(Sender::Client, VERSION_1, &[VERSION_1]));
+    assert_eq!(
+        client.asked(),
+        [Asked::FirstFlight(VERSION_1, sent.clone())]
+    );
+    client.datagram(&packet(VERSION_2));
+    client.datagram(&packet(VERSION_1));
+    assert_eq!(client.asked(), [Asked::RemoveProtection(Some(VERSION_1))]);
+    let (in_use, answer) = crate::server::run::goes_on_with(VERSION_1, &sent);
+    assert_eq!(in_use, VERSION_1);
+    client.handshake_done(in_use, &answer);
+    assert_eq!(client.asked(), [Asked::Connected(VERSION_1)]);
+}
+
+/// A server that uses it all the same: 72, closed and not reported.
+#[test]
+fn barred_version_in_use() {
+    let mut client = barring();
+    client.asked();
+    let answer = information(Sender::Server, VERSION_2, &[VERSION_2, VERSION_1]);
+    client.handshake_done(VERSION_2, &carrying(&answer));
+    assert_eq!(client.asked(), [Asked::Close(0x11)]);
+    let refusal = quic_version::End::Closed(Refusal::ChosenNotOurs);
+    assert_eq!(client.attempt.end(), refusal);
+}
+
 /// The long header says version 1, the authenticated Chosen Version is 2: 73.
 #[test]
 fn long_header_is_not_the_last_word() {

@@ -81,7 +81,7 @@ loop-again c =
     let k = at .loop .k in (
       omega arith,
       rw (c .mark .ensures, at .loop .inv .1, place)
-          (barred-hit table (entry .pre .0) barred (k - 1) k (omega arith) (omega arith) (entry .args .pairs .now) (entry .pre .1)
+          (barred-hit table (entry .pre .0) (entry .args .pairs .now) barred (entry .pre .1) (k - 1) k (omega arith) (omega arith)
           (rw (← place) (c .before .if1 .taken))),
     )
 
@@ -98,7 +98,7 @@ loop-again-2 c =
     let k = at .loop .k in (
       omega arith,
       at .loop .inv .1 ∙
-          barred-miss table (entry .pre .0) barred (k - 1) k (omega arith) (omega arith) (entry .args .pairs .now) (entry .pre .1)
+          barred-miss table (entry .pre .0) (entry .args .pairs .now) barred (entry .pre .1) (k - 1) k (omega arith) (omega arith)
           (rw (← place) (c .if1 .left)),
     )
 
