@@ -41,8 +41,11 @@ fn any_record(random: &mut Random) -> Record {
     let mut record = Record::default();
     if !random.one_in(8) {
         let c = random.good_start_call();
-        let pairs: Vec<Pair> = c.pairs.iter().map(|pair| Pair::from(*pair)).collect();
-        record = raw::start(&c.table, &pairs, c.original, &c.destination, &c.source).attempt;
+        let of = |pairs: &[(u32, u32)]| pairs.iter().map(|pair| Pair::from(*pair)).collect();
+        let (pairs, barred): (Vec<Pair>, Vec<Pair>) = (of(&c.pairs), of(&c.barred));
+        let (destination, source) = (&c.destination, &c.source);
+        let started = raw::start(&c.table, &pairs, &barred, c.original, destination, source);
+        record = started.attempt;
     }
     for _ in 0..random.below(6) {
         change(random, &mut record);

@@ -1,6 +1,6 @@
 //! The library against the model of documents 01 and 02: seeded inputs, whole ranges and edges.
 //!
-//! `cargo test --release` makes some nine million comparisons. QUIC_VERSION_SEED (a number) gives
+//! `cargo test --release` makes some ten million comparisons. QUIC_VERSION_SEED (a number) gives
 //! other inputs, QUIC_VERSION_ROUNDS (a number) more or fewer of them.
 //!
 //! Every `check_` function compares one call: the answer, every lent place and every byte of the

@@ -10,9 +10,10 @@ const NUMBERS: [u8; 40] = [
     61, 62, 63, 64, 65, 71, 72, 73, 74, 75, 80, 81, 82, 83, 84, 85,
 ];
 
-/// Every answer of the calls that choose from a list or a word, make a word or count, and of those
-/// of transport parameters: 0 and the refusals. All of them have to be seen, and no other.
-const ANSWERS: [(&str, &[u32]); 15] = [
+/// Every answer of the calls that choose from a list or a word, make a word or count, of the server's
+/// choice, of a start and of events, and of those of transport parameters: 0 and the refusals, 255 too
+/// where an unknown presence is tried. All of them have to be seen, and no other.
+const ANSWERS: [(&str, &[u32]); 23] = [
     ("qv_choose", &[0, 40, 41, 42]),
     ("qv_choose_from_bytes", &[0, 40, 41, 42]),
     ("qv_list_word", &[0, 40, 41]),
@@ -23,6 +24,25 @@ const ANSWERS: [(&str, &[u32]); 15] = [
     ("qv_choose_by_word, joined lists", &[0, 40, 41, 42]),
     ("qv_count_held", &[0, 40, 41]),
     ("qv_count_held_from_bytes", &[0, 40, 41]),
+    (
+        "qv_server_choice",
+        &[0, 31, 32, 33, 34, 35, 36, 41, 43, 51, 255],
+    ),
+    ("qv_server_choice, barred versions", &[0, 43]),
+    (
+        "qv_server_choice, laws",
+        &[0, 31, 32, 33, 34, 35, 36, 41, 43, 51],
+    ),
+    ("qv_start", &[0, 41, 43, 44, 45]),
+    ("qv_start, laws", &[0, 41, 43, 44]),
+    (
+        "qv_event, qv_own_list",
+        &[
+            0, 31, 32, 33, 34, 35, 61, 62, 63, 64, 65, 71, 72, 73, 74, 75,
+        ],
+    ),
+    ("qv_event, barred pairs", &[0, 71, 72, 73, 74, 75]),
+    ("qv_event, laws", &[0, 71, 72, 73, 74, 75]),
     ("qv_read_integer", &[0, 81]),
     ("qv_write_integer", &[0, 83, 84]),
     ("qv_read_parameters", &[0, 80, 81, 82, 85]),

@@ -1,6 +1,6 @@
 //! The model of the client's attempt, event by event.
 
-use super::choices::{are_pairs, choose, is_table, itself_or_paired_from};
+use super::choices::{are_pairs, choose, is_table, itself_or_paired_from, paired_from};
 use super::wire::{chosen_and_available, list_on_the_wire, read_header, Header, Sender};
 use super::MAX_ID;
 
@@ -38,6 +38,8 @@ pub enum Effect {
 pub struct Attempt {
     pub table: Vec<u32>,
     pub pairs: Vec<(u32, u32)>,
+    /// Document 02, C-17: "pairs barred for this attempt's flights".
+    pub barred: Vec<(u32, u32)>,
     pub original: u32,
     pub destination: Vec<u8>,
     pub source: Vec<u8>,
@@ -49,10 +51,13 @@ pub struct Attempt {
 }
 
 /// "An attempt starts with a table, pairs, an Original Version and its two
-/// connection IDs, destination and source." 41, 43, 44, 45.
+/// connection IDs, destination and source." 41, 43, 44, 45. Document 02, C-17: "A
+/// start takes, beside the pairs, a list of pairs barred for this attempt's
+/// flights, under the pairs' rule, else 43".
 pub fn start(
     table: &[u32],
     pairs: &[(u32, u32)],
+    barred: &[(u32, u32)],
     original: u32,
     destination: &[u8],
     source: &[u8],
@@ -60,7 +65,7 @@ pub fn start(
     if !is_table(table) {
         return Err(41);
     }
-    if !are_pairs(pairs) {
+    if !(are_pairs(pairs) && are_pairs(barred)) {
         return Err(43);
     }
     if !table.contains(&original) {
@@ -72,6 +77,7 @@ pub fn start(
     Ok(Attempt {
         table: table.to_vec(),
         pairs: pairs.to_vec(),
+        barred: barred.to_vec(),
         original,
         destination: destination.to_vec(),
         source: source.to_vec(),
@@ -84,9 +90,13 @@ pub fn start(
 
 impl Attempt {
     /// "Its own list is every table entry, in table order, that is the
-    /// attempted version or is paired from it."
+    /// attempted version or is paired from it." Document 02, C-17: "The own list
+    /// leaves barred ones out".
     pub fn own_list(&self) -> Vec<u32> {
-        own_list(&self.table, &self.pairs, self.attempted)
+        let barred = paired_from(&self.barred, self.attempted);
+        let own = itself_or_paired_from(&self.pairs, &barred, self.attempted);
+        let entries = self.table.iter().copied();
+        entries.filter(|v| own.contains(v)).collect()
     }
 
     /// One event. A refusal by 61 to 64 leaves the record as it was; 65, 71 to
@@ -172,6 +182,7 @@ impl Attempt {
             (None, false) if in_use == self.attempted => return Ok(()),
             (None, false) => return Err(73),
         };
+        // Rule 72 reads "the shorter list" (document 02, C-17).
         if !self.own_list().contains(&chosen) {
             return Err(72);
         }
@@ -191,15 +202,6 @@ impl Attempt {
         }
         Ok(())
     }
-}
-
-pub(super) fn own_list(table: &[u32], pairs: &[(u32, u32)], attempted: u32) -> Vec<u32> {
-    let compatible = itself_or_paired_from(pairs, attempted);
-    table
-        .iter()
-        .copied()
-        .filter(|v| compatible.contains(v))
-        .collect()
 }
 
 /// A readable Version Negotiation packet.

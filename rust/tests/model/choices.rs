@@ -2,7 +2,7 @@
 //! first flight.
 
 use super::wire::{chosen_and_available, Sender};
-use super::{MAX_LIST, MAX_PAIRS, MAX_TABLE};
+use super::{MAX_BARRED, MAX_LIST, MAX_PAIRS, MAX_TABLE};
 use std::collections::BTreeSet;
 
 /// "A version is reserved when the low half of each of its four bytes is 10."
@@ -27,15 +27,28 @@ pub fn are_pairs(p: &[(u32, u32)]) -> bool {
             .all(|&(from, to)| is_plain(from) && is_plain(to) && from != to)
 }
 
-/// The version itself and all that it is paired to: "Pairs are neither turned
-/// round nor chained."
-pub(super) fn itself_or_paired_from(pairs: &[(u32, u32)], version: u32) -> BTreeSet<u32> {
+/// All that a version is paired to: "Pairs are neither turned round nor
+/// chained." Barred pairs are read the same way.
+pub(super) fn paired_from(pairs: &[(u32, u32)], version: u32) -> BTreeSet<u32> {
     pairs
         .iter()
         .filter(|(from, _)| *from == version)
         .map(|(_, to)| *to)
-        .chain(std::iter::once(version))
         .collect()
+}
+
+/// The version itself and all that it is paired to, but for the barred ones. A
+/// version is not barred for itself. Document 02, C-17: "the attempted version's
+/// own entry can't be barred" of the client, "Chosen among them has no effect" of
+/// the server.
+pub(super) fn itself_or_paired_from(
+    pairs: &[(u32, u32)],
+    barred: &BTreeSet<u32>,
+    version: u32,
+) -> BTreeSet<u32> {
+    let mut versions = &paired_from(pairs, version) - barred;
+    versions.insert(version);
+    versions
 }
 
 pub(super) fn set(versions: &[u32]) -> BTreeSet<u32> {
@@ -64,18 +77,21 @@ pub enum Decision {
 }
 
 /// 41 and 43 "before all else", then in the paper's own order: not readable,
-/// missing, 31 to 36, 51, the choice.
+/// missing, 31 to 36, 51, the choice. Document 02, C-17: the server "likewise
+/// takes up to 64 barred versions, of any value, for the flight at hand (more:
+/// 43)".
 pub fn server_choice(
     readable: &[u32],
     accepted: &[u32],
     pairs: &[(u32, u32)],
+    barred: &[u32],
     version: u32,
     information: Option<&[u8]>,
 ) -> Result<Decision, u8> {
     if !(is_table(readable) && is_table(accepted)) {
         return Err(41);
     }
-    if !are_pairs(pairs) {
+    if !are_pairs(pairs) || barred.len() > MAX_BARRED {
         return Err(43);
     }
     // "If the version of the first flight is not readable: answer
@@ -93,8 +109,8 @@ pub fn server_choice(
                 return Err(51);
             }
             // "the first accepted version that is in the client's Available
-            // list and either is Chosen or is paired from Chosen"
-            let compatible = itself_or_paired_from(pairs, chosen);
+            // list and either is Chosen or is paired from Chosen", and not barred
+            let compatible = itself_or_paired_from(pairs, &set(barred), chosen);
             let wanted = set(&available).intersection(&compatible).copied().collect();
             first_in(accepted, &wanted)
         }

@@ -1,7 +1,7 @@
 //! The model's statement on a whole list of events: what an attempt has
 //! completed with, without its record.
 
-use super::attempts::{own_list, Attempt, Event, Negotiation};
+use super::attempts::{Attempt, Event, Negotiation};
 use super::choices::choose;
 use super::wire::{chosen_and_available, Sender};
 
@@ -26,13 +26,7 @@ pub fn completed(started: &Attempt, events: &[Event]) -> Option<u32> {
     };
     let attempted = choice.unwrap_or(started.original);
 
-    let (in_use, information) = events.iter().find_map(|e| match e {
-        Event::Outcome {
-            in_use,
-            information,
-        } => Some((*in_use, information)),
-        _ => None,
-    })?;
+    let (in_use, information) = first_outcome(events)?;
     let (chosen, available) = match (information, choice) {
         (Some(bytes), _) => chosen_and_available(Sender::Server, bytes).ok()?,
         (None, Some(1)) => (1, vec![1]),
@@ -40,15 +34,33 @@ pub fn completed(started: &Attempt, events: &[Event]) -> Option<u32> {
         (None, None) => (attempted, Vec::new()),
     };
 
-    let compatible = own_list(&started.table, &started.pairs, attempted).contains(&chosen);
     let joined = [available.as_slice(), &[in_use]].concat();
     let not_downgraded = choice.is_none()
         || (!available.is_empty() && choose(&started.table, &joined) == Ok(attempted));
-    if compatible && chosen == in_use && not_downgraded {
+    if in_our_list(started, attempted, chosen) && chosen == in_use && not_downgraded {
         Some(in_use)
     } else {
         None
     }
+}
+
+/// The version in use and the information of the first outcome.
+fn first_outcome(events: &[Event]) -> Option<(u32, Option<&[u8]>)> {
+    events.iter().find_map(|e| match e {
+        Event::Outcome {
+            in_use,
+            information,
+        } => Some((*in_use, information.as_deref())),
+        _ => None,
+    })
+}
+
+/// Demand 3's "in our list", of the own list for the version we attempted. It reads
+/// "the shorter list", which "leaves barred ones out" (document 02, C-17).
+fn in_our_list(started: &Attempt, attempted: u32, version: u32) -> bool {
+    let pair = (attempted, version);
+    let paired = started.pairs.contains(&pair) && !started.barred.contains(&pair);
+    started.table.contains(&version) && (version == attempted || paired)
 }
 
 /// "A datagram fits when none of 61, 63 and 64 applies."

@@ -1,5 +1,5 @@
-//! A second reading of document 01, and of document 02 as far as it is there (C-11, C-13 to C-15),
-//! in plain Rust, to compare the library with.
+//! A second reading of document 01, and of document 02 as far as it is there (C-11, C-13 to C-15,
+//! C-17), in plain Rust, to compare the library with.
 //!
 //! It is written from the paper's sentences with sets, slices and iterators;
 //! speed is no aim. Refusals are the paper's numbers. Quoted comments are
@@ -32,6 +32,8 @@ pub const MAX_TABLE: usize = 64;
 /// "A table of compatible pairs (from, to) has 0 to 64 pairs"; document 02, C-14: "pairs from 64 to
 /// 1,024"
 pub const MAX_PAIRS: usize = 1_024;
+/// Document 02, C-17: "up to 64 barred versions, of any value, for the flight at hand (more: 43)"
+pub const MAX_BARRED: usize = 64;
 /// "0 to 255 Available Versions of 4 bytes"
 pub const MAX_AVAILABLE: usize = 255;
 /// "4 to 1,024 bytes"

@@ -9,18 +9,18 @@ const DESTINATION: &[u8] = &[0xd1, 0xd2, 0xd3];
 const SOURCE: &[u8] = &[0x51];
 
 /// Version Negotiation with matching IDs.
-fn listing(versions: &[u32]) -> Event {
+pub fn listing(versions: &[u32]) -> Event {
     Event::Datagram(packet(SOURCE, DESTINATION, versions))
 }
 
-fn outcome(in_use: u32, chosen: u32, available: &[u32]) -> Event {
+pub fn outcome(in_use: u32, chosen: u32, available: &[u32]) -> Event {
     Event::Outcome {
         in_use,
         information: Some(information(chosen, available)),
     }
 }
 
-fn missing(in_use: u32) -> Event {
+pub fn missing(in_use: u32) -> Event {
     Event::Outcome {
         in_use,
         information: None,
@@ -28,7 +28,16 @@ fn missing(in_use: u32) -> Event {
 }
 
 fn begin(table: &[u32], pairs: &[(u32, u32)], original: u32) -> Attempt {
-    start(table, pairs, original, DESTINATION, SOURCE).unwrap()
+    begin_barring(table, pairs, &[], original)
+}
+
+pub fn begin_barring(
+    table: &[u32],
+    pairs: &[(u32, u32)],
+    barred: &[(u32, u32)],
+    original: u32,
+) -> Attempt {
+    start(table, pairs, barred, original, DESTINATION, SOURCE).unwrap()
 }
 
 /// The attempt of P4 after it acted.
@@ -68,12 +77,12 @@ fn refused_unchanged(attempt: &mut Attempt, event: &Event, no: u8) {
 /// An event that is refused and ends the attempt: "An ending changes the end
 /// mark alone."
 #[track_caller]
-fn refused_ended(attempt: &mut Attempt, event: &Event, no: u8) {
+pub fn refused_ended(attempt: &mut Attempt, event: &Event, no: u8) {
     answered(attempt, event, Err(no), End::Closed(no));
 }
 
 #[track_caller]
-fn completes(attempt: &mut Attempt, event: &Event, with: u32) {
+pub fn completes(attempt: &mut Attempt, event: &Event, with: u32) {
     let answer = Ok(Effect::Completed(with));
     answered(attempt, event, answer, End::Completed(with));
 }
@@ -227,12 +236,12 @@ fn slip_rule_64_at_the_outcome() {
 #[test]
 fn start_refusals() {
     let long = [0; 21];
-    assert_eq!(start(&[], &[(1, 1)], 0, &long, &long), Err(41));
-    assert_eq!(start(&[1], &[(1, 1)], 0, &long, &long), Err(43));
-    assert_eq!(start(&[1], &[], 0, &long, &long), Err(44));
-    assert_eq!(start(&[1], &[], 1, &long, &[]), Err(45));
-    assert_eq!(start(&[1], &[], 1, &[], &long), Err(45));
-    let attempt = start(&[2, 1], &[(1, 2)], 1, &long[1..], &[]).unwrap();
+    assert_eq!(start(&[], &[(1, 1)], &[], 0, &long, &long), Err(41));
+    assert_eq!(start(&[1], &[(1, 1)], &[], 0, &long, &long), Err(43));
+    assert_eq!(start(&[1], &[], &[], 0, &long, &long), Err(44));
+    assert_eq!(start(&[1], &[], &[], 1, &long, &[]), Err(45));
+    assert_eq!(start(&[1], &[], &[], 1, &[], &long), Err(45));
+    let attempt = start(&[2, 1], &[(1, 2)], &[], 1, &long[1..], &[]).unwrap();
     assert_eq!(
         (attempt.attempted, attempt.acted, attempt.heard),
         (1, false, false)
@@ -246,7 +255,7 @@ fn start_refusals() {
 fn empty_and_equal_ids_match() {
     let ids: [&[u8]; 2] = [&[], &[7; 20]];
     for id in ids {
-        let mut attempt = start(&[14, 12], &[], 12, id, id).unwrap();
+        let mut attempt = start(&[14, 12], &[], &[], 12, id, id).unwrap();
         let event = Event::Datagram(packet(id, id, &[14]));
         assert_eq!(attempt.event(&event), Ok(Effect::Acted(14)));
     }

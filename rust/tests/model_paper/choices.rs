@@ -18,7 +18,7 @@ fn p1_to_p3_choice() {
 fn server_calls() {
     let first_flight = in_fours(&[3, 3, 4]);
     let answer = |accepted: &[u32], pairs: &[(u32, u32)]| {
-        server_choice(&[3], accepted, pairs, 3, Some(&first_flight))
+        server_choice(&[3], accepted, pairs, &[], 3, Some(&first_flight))
     };
     assert_eq!(answer(&[4, 3], &[(3, 4)]), Ok(Decision::Use(4)));
     assert_eq!(answer(&[4, 3], &[(4, 3)]), Ok(Decision::Use(3)));
@@ -49,7 +49,7 @@ fn slip_reserved_mask() {
 fn slip_client_order_of_preference() {
     let first_flight = in_fours(&[3, 4, 3]);
     let answer =
-        |accepted: &[u32]| server_choice(&[3], accepted, &[(3, 4)], 3, Some(&first_flight));
+        |accepted: &[u32]| server_choice(&[3], accepted, &[(3, 4)], &[], 3, Some(&first_flight));
     assert_eq!(answer(&[3, 4]), Ok(Decision::Use(3)));
     assert_eq!(answer(&[4, 3]), Ok(Decision::Use(4)));
 }
@@ -102,32 +102,32 @@ fn server_order() {
     let good = in_fours(&[3, 3]);
     let bad_pair = [(3, 3)];
     let call = |readable: &[u32], accepted: &[u32], pairs: &[(u32, u32)], version| {
-        server_choice(readable, accepted, pairs, version, Some(&good))
+        server_choice(readable, accepted, pairs, &[], version, Some(&good))
     };
     assert_eq!(call(&[], &[3], &bad_pair, 9), Err(41));
     assert_eq!(call(&[3], &[3, 3], &bad_pair, 9), Err(41));
     assert_eq!(call(&[3], &[3], &bad_pair, 9), Err(43));
     // Not readable comes before the information is looked at.
-    let broken = server_choice(&[3], &[3], &[], 9, Some(&[]));
+    let broken = server_choice(&[3], &[3], &[], &[], 9, Some(&[]));
     assert_eq!(broken, Ok(Decision::Negotiate));
     assert_eq!(call(&[4], &[3], &[], 3), Ok(Decision::Negotiate));
     assert_eq!(call(&[3, 4], &[3], &[], 4), Err(51));
     assert_eq!(call(&[3], &[3], &[], 3), Ok(Decision::Use(3)));
-    let without = |accepted: &[u32]| server_choice(&[3], accepted, &[], 3, None);
+    let without = |accepted: &[u32]| server_choice(&[3], accepted, &[], &[], 3, None);
     assert_eq!(without(&[4, 3]), Ok(Decision::Use(3)));
     assert_eq!(without(&[4]), Ok(Decision::Negotiate));
     let cases: [(&[u32], u8); 4] = [(&[0], 34), (&[4, 4, 0], 35), (&[4, 3], 36), (&[4, 4], 51)];
     for (versions, no) in cases {
         let information = in_fours(versions);
-        let answer = server_choice(&[3], &[3], &[], 3, Some(&information));
+        let answer = server_choice(&[3], &[3], &[], &[], 3, Some(&information));
         assert_eq!(answer, Err(no));
     }
     // Pairs are not chained: 3 to 4 to 5.
     let list = in_fours(&[3, 3, 4, 5]);
-    let answer = server_choice(&[3], &[5, 4], &[(3, 4), (4, 5)], 3, Some(&list));
+    let answer = server_choice(&[3], &[5, 4], &[(3, 4), (4, 5)], &[], 3, Some(&list));
     assert_eq!(answer, Ok(Decision::Use(4)));
     // Paired, but not in Available.
-    let answer = server_choice(&[3], &[4, 3], &[(3, 4)], 3, Some(&good));
+    let answer = server_choice(&[3], &[4, 3], &[(3, 4)], &[], 3, Some(&good));
     assert_eq!(answer, Ok(Decision::Use(3)));
 }
 

@@ -2,6 +2,7 @@
 //! well-known implementations made; and the seeded inputs' reach.
 
 mod attempts;
+mod barred;
 mod choices;
 #[path = "../model/mod.rs"]
 mod model;

@@ -1,5 +1,6 @@
 //! The seeded inputs: every answer comes up, and the same seed gives the same inputs.
 
+mod barred;
 mod parameters;
 
 use crate::model::*;
@@ -56,13 +57,7 @@ fn reach_of_the_calls() {
             Sender::Server => server_writes.note(&answer),
         }
         let c = random.server_call();
-        server.note(&server_choice(
-            &c.readable,
-            &c.accepted,
-            &c.pairs,
-            c.version,
-            c.information.as_deref(),
-        ));
+        server.note(&c.choice());
         let c = random.start_call();
         starts.note(&c.start());
     }
@@ -128,7 +123,7 @@ fn reach_of_the_limits() {
     let mut tables: [Sizes; 6] = Default::default();
     let mut pairs: [Sizes; 3] = Default::default();
     let (mut started, mut decided) = (0, 0);
-    for _ in 0..20_000 {
+    for _ in 0..30_000 {
         let (start, server) = (random.start_call(), random.server_call());
         let drawn = [
             &random.table(),
@@ -149,15 +144,8 @@ fn reach_of_the_limits() {
         }
         let full = (start.table.len(), start.pairs.len()) == (MAX_TABLE, MAX_PAIRS);
         started += usize::from(full && start.start().is_ok());
-        let answer = server_choice(
-            &server.readable,
-            &server.accepted,
-            &server.pairs,
-            server.version,
-            server.information.as_deref(),
-        );
         let full = (server.accepted.len(), server.pairs.len()) == (MAX_TABLE, MAX_PAIRS);
-        decided += usize::from(full && answer.is_ok());
+        decided += usize::from(full && server.choice().is_ok());
     }
     for sizes in &tables {
         sizes.hold(&(0..=66).collect::<Vec<usize>>(), 10);

@@ -8,6 +8,7 @@ use crate::model::{self, Attempt, End, Event};
 pub struct StartCall {
     pub table: Vec<u32>,
     pub pairs: Vec<(u32, u32)>,
+    pub barred: Vec<(u32, u32)>,
     pub original: u32,
     pub destination: Vec<u8>,
     pub source: Vec<u8>,
@@ -16,8 +17,14 @@ pub struct StartCall {
 impl StartCall {
     /// The model's answer.
     pub fn start(&self) -> Result<Attempt, u8> {
-        let (destination, source) = (&self.destination, &self.source);
-        model::start(&self.table, &self.pairs, self.original, destination, source)
+        model::start(
+            &self.table,
+            &self.pairs,
+            &self.barred,
+            self.original,
+            &self.destination,
+            &self.source,
+        )
     }
 }
 
@@ -31,6 +38,7 @@ impl Random {
         } else {
             *self.pick(&table)
         };
+        let barred = self.barred_pairs(&table, &pairs, original);
         let max = *self.pick(&[20, 20, 20, 20, 21, 255]);
         let destination = self.connection_id(max);
         let source = self.source_beside(&destination);
@@ -42,6 +50,7 @@ impl Random {
         StartCall {
             table,
             pairs,
+            barred,
             original,
             destination,
             source,
@@ -66,11 +75,13 @@ impl Random {
         };
         let pairs = self.good_pairs_among(&table);
         let original = *self.pick(&table);
+        let barred = self.good_barred_pairs(&table, &pairs, original);
         let destination = self.connection_id(20);
         let source = self.source_beside(&destination);
         StartCall {
             table,
             pairs,
+            barred,
             original,
             destination,
             source,
@@ -187,14 +198,7 @@ impl Random {
     /// An outcome for this attempt: mostly one that completes, now and then
     /// wrong in one of the ways that 31 to 35 and 71 to 75 name.
     pub fn outcome(&mut self, attempt: &Attempt) -> Event {
-        let own = attempt.own_list();
-        let chosen = match self.below(10) {
-            0 => self.version(),
-            1 => *self.pick(&attempt.table),
-            2 => attempt.original,
-            3..=5 => attempt.attempted,
-            _ => *self.pick(&own),
-        };
+        let chosen = self.chosen(attempt);
         let in_use = match self.below(10) {
             0 => *self.pick(&attempt.table),
             1 => attempt.attempted,
@@ -221,6 +225,29 @@ impl Random {
         Event::Outcome {
             in_use,
             information: Some(information),
+        }
+    }
+
+    /// A Chosen Version: mostly one of the own list, now and then one that is barred, or would be
+    /// for another version than the attempted one.
+    fn chosen(&mut self, attempt: &Attempt) -> u32 {
+        let own = attempt.own_list();
+        match self.below(12) {
+            0 => self.version(),
+            1 => *self.pick(&attempt.table),
+            2 => attempt.original,
+            3..=5 => attempt.attempted,
+            6 | 7 => {
+                let now = attempt.attempted;
+                let barred = attempt.barred.iter().filter(|(from, _)| *from == now);
+                let mut barred: Vec<u32> = barred.map(|(_, to)| *to).collect();
+                if barred.is_empty() || self.one_in(4) {
+                    barred.extend(attempt.barred.iter().map(|(_, to)| *to));
+                    barred.push(now);
+                }
+                *self.pick(&barred)
+            }
+            _ => *self.pick(&own),
         }
     }
 

@@ -1,6 +1,7 @@
 //! Whole calls of the choices: from a list, and the server's.
 
 use super::Random;
+use crate::model::{self, Decision};
 
 /// Inputs of the server's choice.
 #[derive(Debug, Clone)]
@@ -8,8 +9,23 @@ pub struct ServerCall {
     pub readable: Vec<u32>,
     pub accepted: Vec<u32>,
     pub pairs: Vec<(u32, u32)>,
+    pub barred: Vec<u32>,
     pub version: u32,
     pub information: Option<Vec<u8>>,
+}
+
+impl ServerCall {
+    /// The model's answer.
+    pub fn choice(&self) -> Result<Decision, u8> {
+        model::server_choice(
+            &self.readable,
+            &self.accepted,
+            &self.pairs,
+            &self.barred,
+            self.version,
+            self.information.as_deref(),
+        )
+    }
 }
 
 impl Random {
@@ -45,23 +61,8 @@ impl Random {
                 pair.0 = version;
             }
         }
-        let information = if self.one_in(8) {
-            None
-        } else {
-            let chosen = if self.one_in(8) {
-                self.version()
-            } else {
-                version
-            };
-            let mut available = self.list(&accepted);
-            if !self.one_in(8) {
-                available.retain(|v| *v != 0);
-            }
-            if !self.one_in(8) {
-                self.insert(&mut available, chosen);
-            }
-            Some(self.information(chosen, &available))
-        };
+        let barred = self.barred_versions(&accepted, &pairs, version);
+        let information = self.of_a_first_flight(version, &accepted);
         let version = if self.one_in(12) {
             self.version()
         } else {
@@ -71,8 +72,29 @@ impl Random {
             readable,
             accepted,
             pairs,
+            barred,
             version,
             information,
         }
+    }
+
+    /// Version Information of a first flight in `version`, or none.
+    fn of_a_first_flight(&mut self, version: u32, accepted: &[u32]) -> Option<Vec<u8>> {
+        if self.one_in(8) {
+            return None;
+        }
+        let chosen = if self.one_in(8) {
+            self.version()
+        } else {
+            version
+        };
+        let mut available = self.list(accepted);
+        if !self.one_in(8) {
+            available.retain(|v| *v != 0);
+        }
+        if !self.one_in(8) {
+            self.insert(&mut available, chosen);
+        }
+        Some(self.information(chosen, &available))
     }
 }

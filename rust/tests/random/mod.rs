@@ -9,7 +9,9 @@
 #![allow(dead_code)]
 
 pub mod attempts;
-mod choices;
+mod barred;
+mod barring;
+pub mod choices;
 pub mod hostile;
 mod packet;
 pub mod parameters;

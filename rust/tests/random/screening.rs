@@ -149,6 +149,7 @@ impl Random {
         let start = StartCall {
             table: call.table.clone(),
             pairs: Vec::new(),
+            barred: Vec::new(),
             original,
             destination,
             source,
@@ -174,6 +175,7 @@ impl Random {
             original: *self.pick(&table),
             table: call.table.clone(),
             pairs: Vec::new(),
+            barred: Vec::new(),
             destination: Vec::new(),
             source: Vec::new(),
         };
@@ -198,6 +200,7 @@ impl Random {
             readable: vec![chosen],
             accepted: call.table.clone(),
             pairs: others.map(|v| (chosen, *v)).collect(),
+            barred: Vec::new(),
             version: chosen,
             information: Some(information(chosen, &available)),
         }

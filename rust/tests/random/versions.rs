@@ -162,7 +162,7 @@ impl Random {
         pairs
     }
 
-    fn member(&mut self, versions: &[u32]) -> u32 {
+    pub(super) fn member(&mut self, versions: &[u32]) -> u32 {
         if !versions.is_empty() && !self.one_in(8) {
             let v = *self.pick(versions);
             if is_plain(v) {
@@ -175,22 +175,27 @@ impl Random {
     pub fn broken_pairs(&mut self, versions: &[u32]) -> Vec<(u32, u32)> {
         let mut pairs = self.good_pairs_among(versions);
         pairs.truncate(MAX_PAIRS - 1);
-        let good = self.member(versions);
-        let reserved = self.reserved();
-        let bad = *self.pick(&[
-            (0, good),
-            (good, 0),
-            (reserved, good),
-            (good, reserved),
-            (good, good),
-            (good, good),
-        ]);
+        let bad = self.bad_pair(versions);
         if self.one_in(6) {
             let count = MAX_PAIRS + 1 + self.below(2);
             return self.pairs_of(count, versions);
         }
         self.insert(&mut pairs, bad);
         pairs
+    }
+
+    /// A pair that breaks the rule of pairs.
+    pub(super) fn bad_pair(&mut self, versions: &[u32]) -> (u32, u32) {
+        let good = self.member(versions);
+        let reserved = self.reserved();
+        *self.pick(&[
+            (0, good),
+            (good, 0),
+            (reserved, good),
+            (good, reserved),
+            (good, good),
+            (good, good),
+        ])
     }
 
     /// A list of versions as a peer may send it: some of `of`, some others,

@@ -4,19 +4,16 @@ use super::damaged::check_no_record;
 use super::{number, paired, plain, same, Compared, Lent, FOUND};
 use crate::model::{self, Event, MAX_TABLE};
 use crate::raw::{self, Record};
-use quic_version::{Attempt, End, Refusal};
+use quic_version::{Attempt, End, Pair, Refusal};
+use std::collections::BTreeSet;
 
 /// The record that the header describes for a model's attempt.
 fn record_of(attempt: &model::Attempt) -> Record {
-    let mut record = Record::default();
-    for (i, from) in attempt.table.iter().enumerate() {
-        record.table[i] = *from;
-        for (j, to) in attempt.table.iter().enumerate() {
-            if i == j || attempt.pairs.contains(&(*from, *to)) {
-                record.rows[i] |= 1 << j;
-            }
-        }
-    }
+    let mut record = Record {
+        rows: rows_of(attempt),
+        ..Record::default()
+    };
+    record.table[..attempt.table.len()].copy_from_slice(&attempt.table);
     let (destination, source) = (&attempt.destination, &attempt.source);
     record.destination[..destination.len()].copy_from_slice(destination);
     record.source[..source.len()].copy_from_slice(source);
@@ -26,6 +23,23 @@ fn record_of(attempt: &model::Attempt) -> Record {
     record.original = attempt.original;
     put_changes(&mut record, attempt);
     record
+}
+
+/// The rows of its record: the bit of each entry's own place, and of every pair that is not barred
+/// and has its members in the table.
+fn rows_of(attempt: &model::Attempt) -> [u64; MAX_TABLE] {
+    let place = |version| attempt.table.iter().position(|v| *v == version);
+    let barred: BTreeSet<_> = attempt.barred.iter().collect();
+    let mut rows = [0; MAX_TABLE];
+    for (entry, row) in rows.iter_mut().take(attempt.table.len()).enumerate() {
+        *row = 1 << entry;
+    }
+    for pair in attempt.pairs.iter().filter(|pair| !barred.contains(pair)) {
+        if let (Some(from), Some(to)) = (place(pair.0), place(pair.1)) {
+            rows[from] |= 1 << to;
+        }
+    }
+    rows
 }
 
 /// The fields that an event may change.
@@ -85,16 +99,34 @@ fn check_attempt(attempt: &Attempt, model: &model::Attempt) -> Result<(), String
     same("own_list", attempt.own_list().to_vec(), model.own_list())
 }
 
+/// The crate's own starts. With nothing barred the short one is the same.
+fn own_start(
+    table: &[u32],
+    pairs: &[Pair],
+    barred: &[Pair],
+    original: u32,
+    destination: &[u8],
+    source: &[u8],
+) -> Result<Result<Attempt, u8>, String> {
+    let attempt = Attempt::start_barring(table, pairs, barred, original, destination, source);
+    if barred.is_empty() {
+        let short = Attempt::start(table, pairs, original, destination, source);
+        same("start and start_barring", &short, &attempt)?;
+    }
+    Ok(plain(attempt))
+}
+
 pub fn check_start(
     table: &[u32],
     pairs: &[(u32, u32)],
+    barred: &[(u32, u32)],
     original: u32,
     destination: &[u8],
     source: &[u8],
 ) -> Compared {
-    let model = model::start(table, pairs, original, destination, source);
-    let pairs = paired(pairs);
-    let started = raw::start(table, &pairs, original, destination, source);
+    let model = model::start(table, pairs, barred, original, destination, source);
+    let (pairs, barred) = (paired(pairs), paired(barred));
+    let started = raw::start(table, &pairs, &barred, original, destination, source);
     same("answer", started.refusal, number(&model))?;
     let record = model.as_ref().map_or_else(|_| blank(), record_of);
     same("record", started.attempt, record)?;
@@ -102,10 +134,10 @@ pub fn check_start(
         Ok(model) => check_own_list(&started.attempt, &model.own_list())?,
         Err(_) => check_no_record(&started.attempt)?,
     }
-    let attempt = Attempt::start(table, &pairs, original, destination, source);
+    let attempt = own_start(table, &pairs, &barred, original, destination, source)?;
     match (&attempt, &model) {
         (Ok(attempt), Ok(model)) => check_attempt(attempt, model)?,
-        _ => same("start", number(&plain(attempt)), number(&model))?,
+        _ => same("start_barring", number(&attempt), number(&model))?,
     }
     Ok(number(&model))
 }
@@ -138,42 +170,62 @@ fn own_event(attempt: &mut Attempt, event: &Event) -> Result<u32, u8> {
     })
 }
 
+/// One attempt: the model's, the header's record and what that has to be, and the crate's own.
+struct Attempts {
+    model: model::Attempt,
+    record: Record,
+    expected: Record,
+    attempt: Attempt,
+}
+
+impl Attempts {
+    /// One event on each: the answer, and all that it leaves.
+    fn event(&mut self, event: &Event) -> Compared {
+        let (model, record, attempt) = (&mut self.model, &mut self.record, &mut self.attempt);
+        let answer = model.event(event);
+        put_changes(&mut self.expected, model);
+        same("answer", raw_event(record, event), number(&answer))?;
+        same("record", *record, self.expected)?;
+        check_own_list(record, &model.own_list())?;
+        let value = answer.map(|effect| match effect {
+            model::Effect::Acted(version) | model::Effect::Completed(version) => version,
+            model::Effect::Noted => 0,
+        });
+        same("answer of the crate", own_event(attempt, event), value)?;
+        check_attempt(attempt, model)?;
+        Ok(number(&answer))
+    }
+}
+
 /// A start that is not refused, then the events: the answer and the whole record after each, the
 /// own list, and at last the statement on the whole list. The numbers seen.
 pub fn check_events(
     table: &[u32],
     pairs: &[(u32, u32)],
+    barred: &[(u32, u32)],
     original: u32,
     destination: &[u8],
     source: &[u8],
     events: &[Event],
 ) -> Result<Vec<u32>, String> {
     let refused = |no| format!("the start is refused with {}", no);
-    let started = model::start(table, pairs, original, destination, source).map_err(refused)?;
-    let mut model = started.clone();
-    let pairs = paired(pairs);
-    let mut record = raw::start(table, &pairs, original, destination, source).attempt;
-    let mut attempt = Attempt::start(table, &pairs, original, destination, source)
-        .map_err(|no| no.to_string())?;
-    let mut expected = record_of(&model);
-    same("record of the start", record, expected)?;
+    let started =
+        model::start(table, pairs, barred, original, destination, source).map_err(refused)?;
+    let (pairs, barred) = (paired(pairs), paired(barred));
+    let own = own_start(table, &pairs, &barred, original, destination, source)?;
+    let mut attempts = Attempts {
+        model: started.clone(),
+        record: raw::start(table, &pairs, &barred, original, destination, source).attempt,
+        expected: record_of(&started),
+        attempt: own.map_err(refused)?,
+    };
+    same("record of the start", attempts.record, attempts.expected)?;
     let mut numbers = Vec::new();
     for (place, event) in events.iter().enumerate() {
         let at = |difference| format!("event {}: {}", place, difference);
-        let answer = model.event(event);
-        put_changes(&mut expected, &model);
-        same("answer", raw_event(&mut record, event), number(&answer)).map_err(at)?;
-        same("record", record, expected).map_err(at)?;
-        check_own_list(&record, &model.own_list()).map_err(at)?;
-        let value = answer.map(|effect| match effect {
-            model::Effect::Acted(version) | model::Effect::Completed(version) => version,
-            model::Effect::Noted => 0,
-        });
-        same("answer of the crate", own_event(&mut attempt, event), value).map_err(at)?;
-        check_attempt(&attempt, &model).map_err(at)?;
-        numbers.push(number(&answer));
+        numbers.push(attempts.event(event).map_err(at)?);
     }
-    let completed = match attempt.end() {
+    let completed = match attempts.attempt.end() {
         End::Completed(version) => Some(version),
         _ => None,
     };

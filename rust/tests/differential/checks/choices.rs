@@ -51,13 +51,14 @@ pub fn check_server_choice(
     readable: &[u32],
     accepted: &[u32],
     pairs: &[(u32, u32)],
+    barred: &[u32],
     version: u32,
     presence: u32,
     bytes: &[u8],
 ) -> Compared {
     let information = if presence == 1 { Some(bytes) } else { None };
     let model = match presence {
-        0 | 1 => model::server_choice(readable, accepted, pairs, version, information),
+        0 | 1 => model::server_choice(readable, accepted, pairs, barred, version, information),
         _ => Err(255),
     };
     let pairs = paired(pairs);
@@ -67,16 +68,21 @@ pub fn check_server_choice(
     });
     check_number(&left, &|decision| {
         raw::server_choice(
-            readable, accepted, &pairs, version, presence, bytes, decision,
+            readable, accepted, &pairs, barred, version, presence, bytes, decision,
         )
     })?;
     if presence < 2 {
-        let answer = library::server_choice(readable, accepted, &pairs, version, information);
+        let barring = library::server_choice_barring;
+        let answer = barring(readable, accepted, &pairs, barred, version, information);
+        if barred.is_empty() {
+            let short = library::server_choice(readable, accepted, &pairs, version, information);
+            same("server_choice and server_choice_barring", short, answer)?;
+        }
         let answer = answer.map(|decision| match decision {
             Decision::Negotiate => 0,
             Decision::Use(version) => version,
         });
-        same("server_choice", plain(answer), left)?;
+        same("server_choice_barring", plain(answer), left)?;
     }
     Ok(number(&model))
 }

@@ -68,7 +68,7 @@ fn damage(record: &mut Record, field: usize, value: u32) {
 
 /// The record after a start and some events.
 fn record_after(table: &[u32], pairs: &[(u32, u32)], original: u32, events: &[Event]) -> Record {
-    let mut record = raw::start(table, &paired(pairs), original, &[], &[]).attempt;
+    let mut record = raw::start(table, &paired(pairs), &[], original, &[], &[]).attempt;
     for event in events {
         raw_event(&mut record, event);
     }

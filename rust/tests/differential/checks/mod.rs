@@ -2,6 +2,7 @@
 //! the model's, through the numbers of the C header and through the crate's own interface.
 
 mod attempts;
+mod barred;
 mod choices;
 mod damaged;
 mod parameters;
@@ -11,6 +12,7 @@ mod wire;
 mod words;
 
 pub use attempts::*;
+pub use barred::*;
 pub use choices::*;
 pub use damaged::*;
 pub use parameters::*;

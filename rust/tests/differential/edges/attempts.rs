@@ -30,13 +30,14 @@ fn zeroed_records() {
 /// 41, 43, 44 and 45; `check_start` asks 255 from every call with what they hand back.
 #[test]
 fn records_of_refused_starts() {
-    for (table, pairs, original, id, number) in [
-        (&[14, 14][..], &[][..], 14, &[][..], 41),
-        (&[14], &[(12, 12)], 14, &[], 43),
-        (&[14], &[], 0, &[], 44),
-        (&[14], &[], 14, &[7; 21], 45),
+    for (table, pairs, barred, original, id, number) in [
+        (&[14, 14][..], &[][..], &[][..], 14, &[][..], 41),
+        (&[14], &[(12, 12)], &[], 14, &[], 43),
+        (&[14], &[], &[(12, 12)], 14, &[], 43),
+        (&[14], &[], &[], 0, &[], 44),
+        (&[14], &[], &[], 14, &[7; 21], 45),
     ] {
-        let seen = check_start(table, pairs, original, id, &[]).unwrap();
+        let seen = check_start(table, pairs, barred, original, id, &[]).unwrap();
         assert_eq!(seen, number);
     }
 }

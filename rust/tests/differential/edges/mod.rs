@@ -5,6 +5,8 @@ use crate::model::{self, Event};
 use quic_version::transport_parameters;
 
 mod attempts;
+mod barred_pairs;
+mod barred_versions;
 mod choices;
 mod hostile;
 mod integers;
@@ -24,6 +26,7 @@ fn versions(count: usize) -> Vec<u32> {
 fn limits() {
     assert_eq!(quic_version::MAX_TABLE, model::MAX_TABLE);
     assert_eq!(quic_version::MAX_PAIRS, model::MAX_PAIRS);
+    assert_eq!(quic_version::MAX_BARRED, model::MAX_BARRED);
     assert_eq!(quic_version::MAX_LIST, model::MAX_LIST);
     assert_eq!(quic_version::MAX_ID, model::MAX_ID);
     assert_eq!(quic_version::MAX_DATAGRAM, model::MAX_DATAGRAM);
@@ -73,9 +76,9 @@ fn empty_inputs() {
     check_choose_from_word(&[], 0).unwrap();
     check_count_held(&[], &[]).unwrap();
     check_count_held_from_bytes(&[], &[]).unwrap();
-    check_server_choice(&[], &[], &[], 0, 0, &[]).unwrap();
-    check_server_choice(&[1], &[1], &[], 1, 1, &[]).unwrap();
-    check_start(&[], &[], 0, &[], &[]).unwrap();
+    check_server_choice(&[], &[], &[], &[], 0, 0, &[]).unwrap();
+    check_server_choice(&[1], &[1], &[], &[], 1, 1, &[]).unwrap();
+    check_start(&[], &[], &[], 0, &[], &[]).unwrap();
     let events = [
         Event::Datagram(vec![]),
         Event::Outcome {
@@ -83,5 +86,5 @@ fn empty_inputs() {
             information: Some(vec![]),
         },
     ];
-    check_events(&[1], &[], 1, &[], &[], &events).unwrap();
+    check_events(&[1], &[], &[], 1, &[], &[], &events).unwrap();
 }

@@ -267,7 +267,7 @@ fn check_packet(table: &[u32], list: &[u32], id: usize, number: u32) {
     let (original, id) = (table[table.len() / 2], vec![7; id]);
     let packet = random::long_packet(0, 0, &id, &[], &random::in_fours(list));
     let events = [Event::Datagram(packet)];
-    let seen = check_events(table, &[], original, &[], &id, &events).unwrap();
+    let seen = check_events(table, &[], &[], original, &[], &id, &events).unwrap();
     assert_eq!(seen, [number]);
 }
 
@@ -299,7 +299,7 @@ fn each_place_of_available_versions() {
             available[place] = 100;
             let bytes = random::information(100, &available);
             assert_eq!(check_read_information(0, &bytes), Ok(0));
-            check_server_choice(&[100], &[14, 100], &[], 100, 1, &bytes).unwrap();
+            check_server_choice(&[100], &[14, 100], &[], &[], 100, 1, &bytes).unwrap();
             available[place] = 0;
             let bytes = random::information(OTHER, &available);
             assert_eq!(check_read_information(1, &bytes), Ok(35));
@@ -330,7 +330,7 @@ fn a_better_version_at_each_place_of_an_outcome() {
                     information: Some(random::information(attempted, &available)),
                 };
                 let events = [Event::Datagram(packet.clone()), outcome];
-                let seen = check_events(&table, &[], original, &[], &[], &events).unwrap();
+                let seen = check_events(&table, &[], &[], original, &[], &[], &events).unwrap();
                 let number = if better == attempted { 0 } else { 75 };
                 assert_eq!(seen, [0, number]);
             }

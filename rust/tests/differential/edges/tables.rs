@@ -26,9 +26,9 @@ fn check_table(table: &[u32]) {
     check_count_held(table, &[last]).unwrap();
     check_count_held_from_bytes(table, &random::in_fours(&[last])).unwrap();
     check_write_version_negotiation(&first_flight(), table, 0, MAX_PACKET + 8).unwrap();
-    check_server_choice(table, &sure, &[], last, 0, &[]).unwrap();
-    check_server_choice(&sure, table, &[], 100, 1, &information).unwrap();
-    check_start(table, &[], last, &[], &[]).unwrap();
+    check_server_choice(table, &sure, &[], &[], last, 0, &[]).unwrap();
+    check_server_choice(&sure, table, &[], &[], 100, 1, &information).unwrap();
+    check_start(table, &[], &[], last, &[], &[]).unwrap();
 }
 
 #[test]
@@ -61,9 +61,9 @@ fn check_pairs(pairs: &[(u32, u32)]) {
     let listed: Vec<u32> = [100, 100].iter().chain(&table).copied().collect();
     let information = random::in_fours(&listed);
     check_are_pairs(pairs).unwrap();
-    check_start(&table, pairs, 100, &[], &[]).unwrap();
+    check_start(&table, pairs, &[], 100, &[], &[]).unwrap();
     // The server does not accept Chosen, 100, so that the pairs decide.
-    check_server_choice(&table, &table[1..], pairs, 100, 1, &information).unwrap();
+    check_server_choice(&table, &table[1..], pairs, &[], 100, 1, &information).unwrap();
 }
 
 #[test]
@@ -102,7 +102,7 @@ fn every_bit_of_the_words() {
         let table = versions(count);
         for from in &table {
             for to in table.iter().filter(|to| *to != from) {
-                check_start(&table, &[(*from, *to)], *from, &[], &[]).unwrap();
+                check_start(&table, &[(*from, *to)], &[], *from, &[], &[]).unwrap();
             }
         }
         // The server does not accept Chosen, 99, and all that it accepts is available, so that the
@@ -110,7 +110,7 @@ fn every_bit_of_the_words() {
         let listed: Vec<u32> = [99, 99].iter().chain(&table).copied().collect();
         let information = random::in_fours(&listed);
         for to in &table {
-            check_server_choice(&[99], &table, &[(99, *to)], 99, 1, &information).unwrap();
+            check_server_choice(&[99], &table, &[(99, *to)], &[], 99, 1, &information).unwrap();
         }
     }
 }
@@ -126,11 +126,11 @@ fn all_pairs_from_one_entry() {
             .collect();
         let none: Vec<(u32, u32)> = (0..MAX_PAIRS).map(|k| (from, 9_000 + k as u32)).collect();
         for pairs in [&all, &none] {
-            check_start(&table, pairs, from, &[], &[]).unwrap();
+            check_start(&table, pairs, &[], from, &[], &[]).unwrap();
             for available in [&table[..], &others, &[]] {
                 let listed: Vec<u32> = [from, from].into_iter().chain(available.to_vec()).collect();
                 let information = random::in_fours(&listed);
-                check_server_choice(&table, &others, pairs, from, 1, &information).unwrap();
+                check_server_choice(&table, &others, pairs, &[], from, 1, &information).unwrap();
             }
         }
     }

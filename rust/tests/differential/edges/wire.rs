@@ -65,7 +65,7 @@ fn longest_datagrams() {
             check_read_header(&datagram, 255).unwrap();
             check_write_version_negotiation(&datagram, &[14, 13], 0, MAX_PACKET).unwrap();
             let events = [Event::Datagram(datagram)];
-            check_events(&[14, 0x0101_0101], &[], 14, &[], &[], &events).unwrap();
+            check_events(&[14, 0x0101_0101], &[], &[], 14, &[], &[], &events).unwrap();
         }
     }
 }

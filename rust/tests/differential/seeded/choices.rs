@@ -54,6 +54,7 @@ pub fn calls(seen: &mut Seen, random: &mut Random, stream: usize) {
             &c.readable[..],
             &c.accepted[..],
             &c.pairs[..],
+            &c.barred[..],
             c.version,
             presence,
             &bytes[..]

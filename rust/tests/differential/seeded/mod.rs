@@ -21,6 +21,7 @@ macro_rules! compare {
 }
 
 mod attempts;
+mod barred;
 mod choices;
 pub mod parameters;
 pub mod screening;
@@ -35,6 +36,7 @@ pub fn one_stream(seen: &mut Seen, seed: u64, stream: usize, rounds: usize) {
         choices::calls(seen, random, stream);
         words::calls(seen, random, stream);
         attempts::calls(seen, random, stream);
+        barred::calls(seen, random, stream);
         parameters::calls(seen, random, stream);
     }
 }

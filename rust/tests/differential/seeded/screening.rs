@@ -54,8 +54,15 @@ fn searches(seen: &mut Seen, c: &SearchCall, stream: usize) {
 }
 
 fn attempt(seen: &mut Seen, c: &StartCall, events: &[Event], stream: usize) {
-    let (destination, source) = (&c.destination, &c.source);
-    match check_events(&c.table, &[], c.original, destination, source, events) {
+    match check_events(
+        &c.table,
+        &[],
+        &[],
+        c.original,
+        &c.destination,
+        &c.source,
+        events,
+    ) {
         Ok(numbers) => {
             for number in numbers {
                 seen.note("qv_event", number);
@@ -81,6 +88,7 @@ fn available_versions(seen: &mut Seen, random: &mut Random, call: &SearchCall, s
             &c.readable[..],
             &c.accepted[..],
             &c.pairs[..],
+            &c.barred[..],
             c.version,
             1_u32,
             &bytes[..]
