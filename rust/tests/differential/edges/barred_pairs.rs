@@ -63,6 +63,28 @@ fn each_of_all_pairs() {
     }
 }
 
+/// As many pairs as there may be, all the same one, and one that bars them; each entry of a table
+/// barred to and from a version that is in no table.
+#[test]
+fn repeated_pairs_and_members_of_no_table() {
+    let table = versions(MAX_TABLE);
+    let first = vec![(100, 101); MAX_PAIRS];
+    let all: Vec<(u32, u32)> = (0..MAX_PAIRS)
+        .map(|k| (100, 101 + (k % (MAX_TABLE - 1)) as u32))
+        .collect();
+    for barred in [(100, 101), (101, 100), (100, 102), (102, 101)] {
+        check_start(&table, &first, &[barred], 100, &[], &[]).unwrap();
+        check_start(&table, &all, &[barred], 100, &[], &[]).unwrap();
+    }
+    for entry in &table {
+        let others = table.iter().filter(|v| *v != entry);
+        let pairs: Vec<(u32, u32)> = others.flat_map(|v| [(*entry, *v), (*v, *entry)]).collect();
+        for barred in [(*entry, 9_000), (9_000, *entry)] {
+            check_start(&table, &pairs, &[barred], *entry, &[], &[]).unwrap();
+        }
+    }
+}
+
 /// A pair that bars at each place of the longest list, the only one that does; and a fault there.
 #[test]
 fn each_place_of_the_barred_pairs() {
@@ -142,6 +164,54 @@ fn order_of_the_refusals_of_a_start() {
     }
 }
 
+fn packet(list: &[u32]) -> Event {
+    let list = random::in_fours(list);
+    Event::Datagram(random::long_packet(0, 0, &[], &[], &list))
+}
+
+fn outcome(chosen: u32, available: &[u32]) -> Event {
+    Event::Outcome {
+        in_use: chosen,
+        information: Some(random::information(chosen, available)),
+    }
+}
+
+fn missing(in_use: u32) -> Event {
+    Event::Outcome {
+        in_use,
+        information: None,
+    }
+}
+
+/// P4 to P9, which have no pairs, and the same with pairs that lead elsewhere: what is barred changes
+/// no choice, no stand-in and no other number.
+#[test]
+fn p4_to_p9_with_each_barred() {
+    let table = [14, 12, 10];
+    let versions = [14, 12, 10, 1, 13];
+    let all = versions.map(|from| versions.map(|to| (from, to))).concat();
+    for barred in all.iter().filter(|(from, to)| from != to) {
+        for pairs in [
+            &[][..],
+            &[(10, 12), (14, 12), (1, 12)],
+            &[(10, 14), (1, 14)],
+        ] {
+            let check = |table: &[u32], original, events: &[Event], numbers: &[u32]| {
+                let check = check_events(table, pairs, &[*barred], original, &[], &[], events);
+                assert_eq!(check.unwrap(), numbers, "{:?} {:?}", pairs, barred);
+            };
+            let p4 = packet(&[10, 13, 14]);
+            check(&table, 12, &[p4.clone(), outcome(14, &[13, 14])], &[0, 0]);
+            let p5 = [packet(&[10, 13]), outcome(10, &[10, 13, 14])];
+            check(&table, 12, &p5, &[0, 75]);
+            check(&table, 12, &[p4, outcome(14, &[])], &[0, 74]);
+            check(&table, 12, &[packet(&[12, 14])], &[64]);
+            check(&[14, 1], 14, &[packet(&[1]), missing(1)], &[0, 0]);
+            check(&[14, 10], 14, &[packet(&[10]), missing(10)], &[0, 71]);
+        }
+    }
+}
+
 /// P10 to P12 with each pair of five versions barred, and each two: the attempt acts, and every
 /// version is Chosen and in use.
 #[test]
@@ -151,17 +221,7 @@ fn p10_with_each_two_barred() {
         .flat_map(|from| (1..=5).map(move |to| (from, to)))
         .filter(|(from, to)| from != to)
         .collect();
-    let packet = Event::Datagram(random::long_packet(
-        0,
-        0,
-        &[],
-        &[],
-        &random::in_fours(&[4, 3]),
-    ));
-    let outcome = |chosen, available: &[u32]| Event::Outcome {
-        in_use: chosen,
-        information: Some(random::information(chosen, available)),
-    };
+    let packet = packet(&[4, 3]);
     for one in &all {
         for other in &all {
             let barred = [*one, *other];

@@ -3,7 +3,7 @@
 
 use super::versions;
 use crate::checks::*;
-use crate::model::{MAX_BARRED, MAX_TABLE};
+use crate::model::{MAX_BARRED, MAX_PAIRS, MAX_TABLE};
 use crate::{random, raw, Pair};
 
 /// Chosen 100, which is paired to all others of the table; all are Available.
@@ -11,9 +11,10 @@ fn check_flight(accepted: &[u32], barred: &[u32]) -> u32 {
     let table = versions(MAX_TABLE);
     let pairs: Vec<(u32, u32)> = table[1..].iter().map(|to| (100, *to)).collect();
     let information = random::information(100, &table);
-    for presence in [0, 2] {
-        check_server_choice(
-            &[100],
+    let check = |readable: &[u32], presence| {
+        let call = check_server_choice;
+        call(
+            readable,
             accepted,
             &pairs,
             barred,
@@ -21,9 +22,13 @@ fn check_flight(accepted: &[u32], barred: &[u32]) -> u32 {
             presence,
             &information,
         )
-        .unwrap();
-    }
-    check_server_choice(&[100], accepted, &pairs, barred, 100, 1, &information).unwrap()
+        .unwrap()
+    };
+    // Information is missing; the presence is unknown; all are readable, too.
+    check(&[100], 0);
+    check(&[100], 2);
+    assert_eq!(check(&table, 1), check(&[100], 1));
+    check(&[100], 1)
 }
 
 /// Each accepted version barred alone, and all but each; where Chosen is accepted and where not.
@@ -86,6 +91,20 @@ fn each_place_of_the_barred_versions() {
     }
 }
 
+/// As many pairs as there may be, all to one version, and it is barred; or another one is.
+#[test]
+fn a_barred_version_of_repeated_pairs() {
+    let information = random::information(100, &[100, 101, 102]);
+    for pairs in [vec![(100, 101); 2], vec![(100, 101); MAX_PAIRS]] {
+        for accepted in [&[101, 100][..], &[101], &[102, 101]] {
+            for barred in [101, 102, 100] {
+                let call = check_server_choice;
+                call(&[100], accepted, &pairs, &[barred], 100, 1, &information).unwrap();
+            }
+        }
+    }
+}
+
 /// Versions that differ from an accepted one in one bit, or have its bytes in another order, do not
 /// bar it.
 #[test]
@@ -107,8 +126,8 @@ fn versions_near_a_barred_one() {
 #[test]
 fn order_of_the_refusals_of_the_server() {
     let informations: [&[u32]; 6] = [&[], &[0], &[3], &[3, 0], &[4, 4], &[3, 3, 4]];
-    for count in [0, 1, MAX_BARRED, MAX_BARRED + 1] {
-        let barred = vec![4; count];
+    for count in [0, 1, 4, MAX_BARRED, MAX_BARRED + 1] {
+        let barred: Vec<u32> = [4, 9, 3, 0].into_iter().cycle().take(count).collect();
         for versions in informations {
             for (version, presence) in [(3, 0), (3, 1), (9, 0), (9, 1), (0, 1), (3, 2)] {
                 let check = |readable: &[u32], accepted: &[u32], pairs: &[(u32, u32)]| {
