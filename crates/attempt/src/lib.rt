@@ -86,8 +86,8 @@ pub struct Stepped {
     pub answer: Answer,
 }
 
-// The own list of an attempt (document 01's term): every table entry that is the attempted version or is
-// paired from it, in table order. Places past the count are 0.
+// The own list of an attempt (document 01's term): every table entry that is the attempted version, or is
+// paired from it by a pair that is not barred, in table order. Places past the count are 0.
 pub struct OwnList {
     pub versions: [u32; MAX_TABLE],
     pub count: usize,

@@ -1,4 +1,5 @@
-// The own list of an attempt: every table entry that is the attempted version or is paired from it.
+// The own list of an attempt: every table entry that is the attempted version, or is paired from it by a pair that is not
+// barred.
 ghost use mathlib.Core.Path.{_≡_};
 ghost use Prim.Native.Nat.{min};
 ghost use lib.ListN.{length, take};

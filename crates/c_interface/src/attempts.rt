@@ -33,7 +33,8 @@ pub extern "C" fn qv_event(held: &mut Record, kind: u32, value: u32, bytes: &[u8
     out.refusal
 }
 
-// Starts an attempt: its record and 0; or 41, 43, 44, 45, with a record that is no attempt.
+// Starts an attempt, with pairs that are barred for its flights: its record and 0; or 41, 43, 44, 45, with a record that
+// is no attempt.
 #[no_mangle]
 pub extern "C" fn qv_start(
     table: &[u32],

@@ -92,9 +92,9 @@ pub extern "C" fn qv_choose_from_bytes(table: &[u32], bytes: &[u8], version: &mu
     }
 }
 
-// The server's choice after a first flight in `version`; `presence` is 0 for missing information, 1 for given. Refusals:
-// 255 (another presence), 41, 43, 31 to 36, 51, which leave `decision` as found; else 0, and `decision` is the version
-// to use, or 0 to send a Version Negotiation packet.
+// The server's choice after a first flight in `version`, with versions that are barred for it; `presence` is 0 for missing
+// information, 1 for given. Refusals: 255 (another presence), 41, 43, 31 to 36, 51, which leave `decision` as found; else
+// 0, and `decision` is the version to use, or 0 to send a Version Negotiation packet.
 #[no_mangle]
 pub extern "C" fn qv_server_choice(
     readable: &[u32],
