@@ -4,6 +4,7 @@ use mathlib.Core.Bool.{Bool, true, false}
 use mathlib.Core.List.{List, _++_}
 use lib.ListN.{length, take, drop, replicate}
 use Rattle.versions.specs.Limits.{maxTable}
+use Rattle.attempt.specs.AsSent.{listAsSent}
 use Rattle.attempt.specs.OwnList.{ownIn}
 use Rattle.attempt.specs.declared.Attempt.{Attempt}
 use Rattle.attempt.specs.declared.End.{End}
@@ -35,6 +36,17 @@ ownFor a v = ownIn (tableOf a) (a .rows) v
 -- The own list of the attempt, which is that of the attempted version
 unfoldable pub ownOf : Attempt → List ℕ
 ownOf a = ownFor a (a .attempted)
+
+-- Document 02, C-18: "The own list now is two: as sent, and as may be answered. Rule 72 and demand 3's 'in our list' read
+-- the second"
+
+-- As may be answered: the own list itself
+abbrev pub ownAsAnswered : Attempt → List ℕ
+ownAsAnswered a = ownOf a
+
+-- As sent: with the reserved numbers that are given, each at its place
+abbrev pub ownAsSent : Attempt → List (List ℕ) → List ℕ
+ownAsSent a given = listAsSent (ownAsAnswered a) given
 
 -- A list as an array and a count
 abbrev pub listInPlaces : List ℕ → OwnList

@@ -1,3 +1,4 @@
+pub mod AsSent
 pub mod Attempt
 pub mod Demand
 pub mod Events

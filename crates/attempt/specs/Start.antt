@@ -34,7 +34,7 @@ abbrev pub inputOf : List ℕ → List (List ℕ) → List (List ℕ) → ℕ �
 inputOf t ps bs v d s = record { table = t; pairs = ps; barred = bs; original = v; destination = d; source = s }
 
 -- "Our list", the own list for an attempted version, read from the start. Document 02, C-17: "demand 3's 'in our list'"
--- reads "the shorter list"
+-- reads "the shorter list"; C-18: of the two own lists it is the one "as may be answered", which has no reserved number
 abbrev pub ourList : Input → ℕ → List ℕ
 ourList x attempted = ownList (x .table) (x .pairs) (x .barred) attempted
 

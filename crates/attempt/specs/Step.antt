@@ -15,7 +15,7 @@ use Rattle.invariants.specs.Header.{isReadableNegotiation, destinationID, sourc
 use Rattle.information.specs.Information.{chosenOf, availableOf, formRules}
 use Rattle.information.specs.declared.Presence.{Presence}
 use Rattle.information.specs.declared.Presence.the-variants.{Missing, Given}
-use Rattle.attempt.specs.Attempt.{tableOf, destinationOf, sourceOf, ownOf, isOpen, put, ended}
+use Rattle.attempt.specs.Attempt.{tableOf, destinationOf, sourceOf, ownAsAnswered, isOpen, put, ended}
 use Rattle.attempt.specs.Limits.{maxID, notARecord}
 use Rattle.attempt.specs.declared.Answer.{Answer}
 use Rattle.attempt.specs.declared.Answer.the-variants as answer
@@ -107,10 +107,10 @@ abbrev pub picks : Option ℕ → ℕ → Bool
 picks none v = false
 picks (some w) v = eqb w v
 
--- 72 to 75, for the information read. "The choice made again at the outcome doesn't apply rule 64 a second time."
+-- 72 to 75, for the information read. Rule 72 reads the own list as may be answered (document 02, C-18). "The choice made again at the outcome doesn't apply rule 64 a second time."
 abbrev pub outcomeRules : Attempt → ℕ → ℕ → List ℕ → List Rule
 outcomeRules a inUse chosen available =
-    (72 when not (elem chosen (ownOf a))) ∷
+    (72 when not (elem chosen (ownAsAnswered a))) ∷
     (73 when not (eqb chosen inUse)) ∷
     (74 when a .acted && eqb (length available) 0) ∷
     (75 when a .acted && not (picks (preferred (tableOf a) (available ++ (inUse ∷ []))) (a .attempted))) ∷

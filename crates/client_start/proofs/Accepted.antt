@@ -1,21 +1,15 @@
 -- What an accepted start has passed.
 use Prim.Native.Nat.{_≤_}
-use mathlib.Core.Bool.{Bool, true, false, not, _||_, false≢true}
-use mathlib.Core.Path.{_≡_, refl}
+use mathlib.Core.Bool.{true, not, _||_}
+use mathlib.Core.Path.{_≡_}
 use lib.Dec.{ltb}
 use lib.ListN.{length}
 use borrow.Author.Tests.{ltb-false, not-true, not-false}
-use Rattle.refusals.proofs.Rules.{both-true}
+use Rattle.refusals.proofs.Rules.{both-true, neither}
 use Rattle.versions.specs.Pairs.{pairsKeepRule}
 use Rattle.versions.specs.Table.{elem, tableKeepsRule}
 use Rattle.attempt.specs.Limits.{maxID}
 use Rattle.attempt.specs.Start.{Input, isAccepted}
-
--- a rule of two tests that does not apply
-neither : (a b : Bool) → not (a || b) ≡ true → (a ≡ false) × (b ≡ false)
-neither true b h = absurd (false≢true h)
-neither false true h = absurd (false≢true h)
-neither false false h = (refl, refl)
 
 pub passed : (x : Input) → isAccepted x ≡ true →
     (tableKeepsRule (x .table) ≡ true) × (pairsKeepRule (x .barred) ≡ true) × (length (x .destination) ≤ maxID) ×

@@ -1,7 +1,7 @@
 -- Version Negotiation packets as the header reader answers them: which datagrams they are, where their parts lie,
 -- and how long their list is. A long form ignores the told length.
 use Prim.Native.Nat.{ℕ, _+_, _*_, _%_, _<_, _≤_}
-use mathlib.Core.Bool.{Bool, true, false, cond, not, _&&_, _||_, true≢false}
+use mathlib.Core.Bool.{Bool, true, false, cond, not, _&&_}
 use mathlib.Core.List.{List}
 use mathlib.Core.Path.{_≡_, refl, sym, _∙_, ap}
 use native.Mathlib.Omega.{arith}
@@ -11,7 +11,7 @@ use lib.ListN.{length, length-drop}
 use Rattle.refusals.specs.Reply.{Reply, Reply.refused, Reply.answered, refuse}
 use Rattle.refusals.specs.Rule.{clear}
 use Rattle.refusals.specs.declared.Call.the-variants.{Reading}
-use Rattle.refusals.proofs.Rules.{both-true, lowest-clear, lowest-applies}
+use Rattle.refusals.proofs.Rules.{both-true, neither, lowest-clear, lowest-applies}
 use Rattle.lists.specs.Limits.{maxList}
 use Rattle.lists.specs.Wire.{versionBytes}
 use Rattle.lists.specs.declared.Span.{Span}
@@ -83,10 +83,6 @@ pub record Readable (d : List ℕ) : Type 0 where
   pub whole : length (restOf d) % versionBytes ≡ 0
   pub bounded : length (restOf d) ≤ versionBytes * maxList
   pub count : length (listed d) ≤ maxList
-
-neither : (a b : Bool) → not (a || b) ≡ true → (a ≡ false) × (b ≡ false)
-neither true b e = absurd (true≢false (sym e))
-neither false b e = (refl, not-true b e)
 
 pub readable-known : (d : List ℕ) → isReadableNegotiation d ≡ true → Readable d
 unfolding isReadableNegotiation readHeader

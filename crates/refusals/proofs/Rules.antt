@@ -1,6 +1,6 @@
 -- Lists of rules: where every test is false the answer is given, else a refusal is.
 use Prim.Native.Nat.{ℕ}
-use mathlib.Core.Bool.{Bool, true, false, not, _&&_, and-assoc, true≢false, false≢true}
+use mathlib.Core.Bool.{Bool, true, false, not, _&&_, _||_, and-assoc, true≢false, false≢true}
 use mathlib.Core.List.{List, [], _∷_, _++_}
 use mathlib.Core.Path.{_≡_, refl, sym, _∙_, ap}
 use native.Mathlib.Omega.{arith}
@@ -11,6 +11,12 @@ use Rattle.refusals.specs.Rule.{Rule, Rule._when_, lowest, judged, clear
 pub both-true : (a b : Bool) → (a && b) ≡ true → (a ≡ true) × (b ≡ true)
 both-true true b e = (refl, e)
 both-true false b e = absurd (false≢true e)
+
+-- A rule of two tests that does not apply
+pub neither : (a b : Bool) → not (a || b) ≡ true → (a ≡ false) × (b ≡ false)
+neither true b e = absurd (false≢true e)
+neither false true e = absurd (false≢true e)
+neither false false e = (refl, refl)
 
 pub refused-not-answered : {A : Type 0} (n : ℕ) (call : Call) (a : A) → refuse call n ≡ answered a → ⊥
 refused-not-answered n call a e = let z : _≡_ {A = ℕ} 0 1 = cc in omega arith

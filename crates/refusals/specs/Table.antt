@@ -1,7 +1,7 @@
 -- Document 01, "When the desk says no": each number of the table, with its close code where what was read
 -- from the peer is refused. A row of the paper with no close code, or with a state in its place, has `Nothing`.
 -- Document 02: "New numbers, here and later, join document 01's table without a close code, but this reader's have 0x08":
--- 20 of C-13 has none; of C-11's, 80, 81, 82 and 85 are the reader's.
+-- 20 of C-13 has none, nor have 28 and 47 of C-18; of C-11's, 80, 81, 82 and 85 are the reader's.
 use Prim.Native.Nat.{ℕ}
 use mathlib.Core.List.{List, [], _∷_}
 use Rattle.refusals.specs.declared.Close.{Close}
@@ -22,6 +22,7 @@ table =
     row 24 Nothing ∷
     row 25 Nothing ∷
     row 26 Nothing ∷
+    row 28 Nothing ∷
     row 31 (With 0x08) ∷
     row 32 (With 0x08) ∷
     row 33 (With 0x08) ∷
@@ -35,6 +36,7 @@ table =
     row 43 Nothing ∷
     row 44 Nothing ∷
     row 45 Nothing ∷
+    row 47 Nothing ∷
     row 51 (With 0x11) ∷
     row 61 Nothing ∷
     row 62 Nothing ∷

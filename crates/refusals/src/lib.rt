@@ -29,6 +29,8 @@ impl Refusal {
     pub const UNUSED_BITS_TOO_LARGE: Refusal = Refusal(25);
     // 26: the buffer is shorter than the packet.
     pub const NO_ROOM_FOR_PACKET: Refusal = Refusal(26);
+    // 28: the reserved numbers of the packet break their rule, or the received version is among them.
+    pub const BAD_RESERVED_IN_PACKET: Refusal = Refusal(28);
     // 31: the information has under 4 bytes.
     pub const INFORMATION_TOO_SHORT: Refusal = Refusal(31);
     // 32: the information's length is not a multiple of four.
@@ -55,6 +57,8 @@ impl Refusal {
     pub const ORIGINAL_NOT_IN_TABLE: Refusal = Refusal(44);
     // 45: a connection ID has over 20 bytes.
     pub const CONNECTION_ID_TOO_LONG: Refusal = Refusal(45);
+    // 47: the reserved numbers of the client's list, or their places in it, break their rule.
+    pub const BAD_RESERVED_IN_LIST: Refusal = Refusal(47);
     // 51: the Chosen Version is not the first flight's version.
     pub const CHOSEN_NOT_RECEIVED: Refusal = Refusal(51);
     // 61: the datagram is not a readable Version Negotiation packet.
@@ -112,7 +116,7 @@ pub enum Written {
 }
 
 // How many numbers document 01's table has.
-pub const COUNT: usize = 40;
+pub const COUNT: usize = 42;
 
 // Every number of document 01's table, in its order. Total, and it refuses nothing.
 pub fn all_numbers() -> [u8; COUNT]
@@ -129,6 +133,7 @@ pub fn all_numbers() -> [u8; COUNT]
         Refusal::RECEIVED_VERSION_OFFERED.0,
         Refusal::UNUSED_BITS_TOO_LARGE.0,
         Refusal::NO_ROOM_FOR_PACKET.0,
+        Refusal::BAD_RESERVED_IN_PACKET.0,
         Refusal::INFORMATION_TOO_SHORT.0,
         Refusal::INFORMATION_NOT_IN_FOURS.0,
         Refusal::INFORMATION_TOO_LONG.0,
@@ -142,6 +147,7 @@ pub fn all_numbers() -> [u8; COUNT]
         Refusal::BAD_PAIRS.0,
         Refusal::ORIGINAL_NOT_IN_TABLE.0,
         Refusal::CONNECTION_ID_TOO_LONG.0,
+        Refusal::BAD_RESERVED_IN_LIST.0,
         Refusal::CHOSEN_NOT_RECEIVED.0,
         Refusal::NOT_VERSION_NEGOTIATION.0,
         Refusal::TOO_LATE.0,

@@ -5,4 +5,5 @@ pub mod Masks
 pub mod Members
 pub mod Repeated
 pub mod Reserved
+pub mod WithoutReserved
 pub mod Worked

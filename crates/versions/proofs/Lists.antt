@@ -1,9 +1,9 @@
 -- A walk over a list, entry by entry: at each place i the rest `drop i xs` answers for the whole. Each definition
 -- of specs/ over a list is read here at such a rest: what its first entry decides, what it leaves, and the end.
 use Prim.Native.Nat.{ℕ, suc, _+_, _-_, _<_, _≤_}
-use mathlib.Core.Bool.{Bool, true, false, cond, _||_, or-assoc}
+use mathlib.Core.Bool.{Bool, true, false, cond, not, _&&_, _||_, or-assoc}
 use mathlib.Core.List.{List, [], _∷_, _++_}
-use mathlib.Core.Path.{_≡_, refl, ap}
+use mathlib.Core.Path.{_≡_, refl, ap, _∙_}
 use native.Mathlib.Nat.{le-refl}
 use native.Mathlib.Numerals.{add-one}
 use native.Mathlib.Omega.{arith}
@@ -14,8 +14,9 @@ use lib.Dec.{eqb, leb}
 use Rattle.refusals.proofs.Rules.{both-true}
 use Rattle.versions.specs.Limits.{maxTable}
 use Rattle.versions.specs.Pairs.{pairKeepsRule, eachPairKeepsRule}
+use Rattle.versions.specs.Reserved.{eachReserved}
 use Rattle.versions.specs.Table.{elem, placeOf, entriesKeepRule, tableKeepsRule}
-use Rattle.versions.specs.Version.{usable}
+use Rattle.versions.specs.Version.{reserved, usable}
 
 -- The rest at a place is the entry there and the rest after it
 pub drop-next : {A : Type 0} (xs : List A) (i : ℕ) (d : A) → i < length xs → drop i xs ≡ getD xs i d ∷ drop (i + 1) xs
@@ -62,23 +63,34 @@ module _ (v : ℕ) (xs : List ℕ) (i : ℕ) where
   unfolding placeOf
   place-end h = rw (drop-of-length-le xs h) (omega arith)
 
--- `entriesKeepRule`
-module _ (xs : List ℕ) (i : ℕ) where
-  pub table-unusable : i < length xs → usable (getD xs i 0) ≡ false → entriesKeepRule (drop i xs) ≡ false
-  unfolding entriesKeepRule
-  table-unusable h e = rw (drop-next xs i 0 h, e)
+-- Each entry passes a test, and none is there twice: `entriesKeepRule`, `eachReserved`
+pub record Once (test : ℕ → Bool) (each : List ℕ → Bool) : Type 0 where
+  pub none : each [] ≡ true
+  pub next : (v : ℕ) (vs : List ℕ) → each (v ∷ vs) ≡ ((test v && not (elem v vs)) && each vs)
 
-  pub table-twice : i < length xs → usable (getD xs i 0) ≡ true → elem (getD xs i 0) (drop (i + 1) xs) ≡ true → entriesKeepRule (drop i xs) ≡ false
-  unfolding entriesKeepRule
-  table-twice h u e = rw (drop-next xs i 0 h, u, e)
+pub table-once : Once usable entriesKeepRule
+unfolding entriesKeepRule
+table-once = record { none = refl; next = λ v vs. refl }
 
-  pub table-next : i < length xs → usable (getD xs i 0) ≡ true → elem (getD xs i 0) (drop (i + 1) xs) ≡ false → entriesKeepRule (drop i xs) ≡ entriesKeepRule (drop (i + 1) xs)
-  unfolding entriesKeepRule
-  table-next h u e = rw (drop-next xs i 0 h, u, e)
+pub reserved-once : Once reserved eachReserved
+unfolding eachReserved
+reserved-once = record { none = refl; next = λ v vs. refl }
 
-  pub table-end : length xs ≤ i → entriesKeepRule (drop i xs) ≡ true
-  unfolding entriesKeepRule
-  table-end h = rw (drop-of-length-le xs h)
+module _ {test : ℕ → Bool} {each : List ℕ → Bool} (once : Once test each) (xs : List ℕ) (i : ℕ) where
+  here : i < length xs → each (drop i xs) ≡ ((test (getD xs i 0) && not (elem (getD xs i 0) (drop (i + 1) xs))) && each (drop (i + 1) xs))
+  here h = ap each (drop-next xs i 0 h) ∙ once .next (getD xs i 0) (drop (i + 1) xs)
+
+  pub once-fails : i < length xs → test (getD xs i 0) ≡ false → each (drop i xs) ≡ false
+  once-fails h e = here h ∙ rw e
+
+  pub once-twice : i < length xs → test (getD xs i 0) ≡ true → elem (getD xs i 0) (drop (i + 1) xs) ≡ true → each (drop i xs) ≡ false
+  once-twice h u e = here h ∙ rw (u, e)
+
+  pub once-next : i < length xs → test (getD xs i 0) ≡ true → elem (getD xs i 0) (drop (i + 1) xs) ≡ false → each (drop i xs) ≡ each (drop (i + 1) xs)
+  once-next h u e = here h ∙ rw (u, e)
+
+  pub once-end : length xs ≤ i → each (drop i xs) ≡ true
+  once-end h = ap each (drop-of-length-le xs h) ∙ once .none
 
 -- The count of a table that keeps its rule
 pub table-counts : (t : List ℕ) → tableKeepsRule t ≡ true → (1 ≤ length t) × (length t ≤ maxTable)

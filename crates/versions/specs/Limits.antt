@@ -8,3 +8,7 @@ maxTable = 64
 -- Document 01: "A table of compatible pairs (from, to) has 0 to 64 pairs". Document 02, C-14: "pairs from 64 to 1,024"
 abbrev pub maxPairs : ℕ
 maxPairs = 1024
+
+-- Document 02, C-18: "up to four distinct reserved numbers"
+abbrev pub maxReserved : ℕ
+maxReserved = 4

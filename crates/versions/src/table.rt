@@ -1,7 +1,9 @@
 // Reserved numbers, tables and lists of versions.
 ghost use mathlib.Core.Path.{_≡_};
+ghost use Rattle.versions.specs.Reserved.{reservedKeepRule};
 ghost use Rattle.versions.specs.Table.{elem, placeOf, tableKeepsRule};
 ghost use Rattle.versions.specs.Version.{reserved, usable};
+use crate::MAX_RESERVED;
 use crate::MAX_TABLE;
 
 // What is kept of a version to tell whether it is reserved: the low half of each of its four bytes.
@@ -89,6 +91,29 @@ pub fn is_table(table: &[u32]) -> bool
             return false;
         }
         if holds(&table[i..], version) {
+            return false;
+        }
+    }
+    true
+}
+
+// Whether reserved numbers to send keep their rule: at most MAX_RESERVED, each reserved, none twice. Of more than that it
+// reads none.
+pub fn are_reserved(numbers: &[u32]) -> bool
+    ensures { λ r. ⌜ r ≡ reservedKeepRule (now (numbers .entry)) ⌝ }
+{
+    let count = numbers.len();
+    if MAX_RESERVED < count {
+        return false;
+    }
+    let mut i = 0;
+    while i < count {
+        let number = numbers[i];
+        i += 1;
+        if !is_reserved(number) {
+            return false;
+        }
+        if contains(&numbers[i..], number) {
             return false;
         }
     }

@@ -7,7 +7,7 @@ use borrow.Author.Needs.{needs}
 use borrow.Author.Tests.{lt-leb, le-leb, not-true, not-false}
 use lib.ListN.{length, drop, getD}
 use Rattle.versions.specs.Table.{elem, entriesKeepRule, tableKeepsRule}
-use Rattle.versions.proofs.Lists.{table-unusable, table-twice, table-next, table-end, elem-part}
+use Rattle.versions.proofs.Lists.{table-once, once-fails, once-twice, once-next, once-end, elem-part}
 use Rattle.versions.proofs.table.is_table.Statement.{statement}
 use Rattle.versions.proofs.table.is_table.Tie as tie
 
@@ -46,7 +46,7 @@ returns-3 : tie.Need-returns-3 Inv-loop μ-loop
 returns-3 c =
     sym
     (c .before .before .before .before .loop .inv .1 ∙
-    table-unusable _ _ (c .before .before .before .loop-test .taken)
+    once-fails table-once _ _ (c .before .before .before .loop-test .taken)
     (sym (c .before .is-usable .ensures) ∙ not-true _ (c .if3 .taken)))
 
 mul-holds : tie.Need-mul-holds Inv-loop μ-loop
@@ -78,7 +78,7 @@ returns-4 : tie.Need-returns-4 Inv-loop μ-loop
 returns-4 c =
     sym
     (c .before .before .before .before .before .before .before .loop .inv .1 ∙
-    table-twice _ _ (c .before .before .before .before .before .before .loop-test .taken)
+    once-twice table-once _ _ (c .before .before .before .before .before .before .loop-test .taken)
     (sym (c .before .before .before .before .is-usable .ensures) ∙ not-false _ (c .before .before .before .if3 .left))
     (elem-later (c .before) ∙ c .if4 .taken))
 
@@ -89,13 +89,13 @@ loop-again : tie.Need-loop-again Inv-loop μ-loop
 loop-again c = (
   omega arith,
   c .before .before .before .before .before .before .before .loop .inv .1 ∙
-      table-next _ _ (c .before .before .before .before .before .before .loop-test .taken)
+      once-next table-once _ _ (c .before .before .before .before .before .before .loop-test .taken)
       (sym (c .before .before .before .before .is-usable .ensures) ∙ not-false _ (c .before .before .before .if3 .left))
       (elem-later (c .before) ∙ c .if4 .left),
 )
 
 returns-5 : tie.Need-returns-5 Inv-loop μ-loop
-returns-5 c = sym (c .before .loop .inv .1 ∙ table-end _ _ (c .loop-test .left))
+returns-5 c = sym (c .before .loop .inv .1 ∙ once-end table-once _ _ (c .loop-test .left))
 
 pub is-table-spec : {M : Type 1} → statement M
 is-table-spec =
