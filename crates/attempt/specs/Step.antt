@@ -107,7 +107,8 @@ abbrev pub picks : Option ℕ → ℕ → Bool
 picks none v = false
 picks (some w) v = eqb w v
 
--- 72 to 75, for the information read. Rule 72 reads the own list as may be answered (document 02, C-18). "The choice made again at the outcome doesn't apply rule 64 a second time."
+-- 72 to 75, for the information read. "The choice made again at the outcome doesn't apply rule 64 a second time."
+-- Document 02, C-18: rule 72 reads the own list as may be answered, "so a reserved Chosen falls under 72"
 abbrev pub outcomeRules : Attempt → ℕ → ℕ → List ℕ → List Rule
 outcomeRules a inUse chosen available =
     (72 when not (elem chosen (ownAsAnswered a))) ∷

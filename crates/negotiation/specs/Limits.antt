@@ -1,6 +1,6 @@
 -- The limits of the Version Negotiation packet's writer.
 use Prim.Native.Nat.{ℕ, _+_, _*_}
-use Rattle.versions.specs.Limits.{maxTable}
+use Rattle.versions.specs.Limits.{maxTable, maxReserved}
 use Rattle.lists.specs.Wire.{versionBytes}
 use Rattle.invariants.specs.Limits.{maxConnectionID}
 
@@ -14,6 +14,6 @@ abbrev pub minAnsweredDatagram : ℕ
 minAnsweredDatagram = 1200
 
 -- The most bytes of a packet. Document 01: "7 plus both ID lengths plus 4 per entry". Document 02, C-14: "so the largest
--- packet sent is 773 bytes"
+-- packet sent is 773 bytes"; C-18: "The packet's size limit grows by 16."
 abbrev pub maxPacket : ℕ
-maxPacket = 7 + (maxConnectionID + (maxConnectionID + versionBytes * maxTable))
+maxPacket = 7 + (maxConnectionID + (maxConnectionID + versionBytes * (maxTable + maxReserved)))

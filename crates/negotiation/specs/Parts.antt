@@ -11,7 +11,7 @@ use Rattle.refusals.specs.declared.Call.the-variants.{Writing}
 use Rattle.lists.specs.Wire.{versionBytes}
 use Rattle.invariants.specs.Header.{Form, versionOf, destinationLength, sourceLength, restStart}
 use Rattle.invariants.specs.Limits.{maxConnectionID}
-use Rattle.negotiation.specs.Packet.{packetLength, packetFor, offerRules}
+use Rattle.negotiation.specs.Packet.{listSent, packetLength, packetFor, offerRules}
 
 -- The lengths of the connection IDs of a complete long form
 pub record Lengths (received : List ℕ) (destination source : ℕ) : Type 0 where
@@ -31,12 +31,17 @@ abbrev pub smallNumber : Reply Form → ℕ
 smallNumber (refused n code) = writerNumber 20 n
 smallNumber (answered form) = 20
 
--- The packet's length, for connection IDs of so many bytes in all
-abbrev pub countOf : ℕ → List ℕ → ℕ
-countOf ids offered = 7 + (ids + versionBytes * length offered)
+-- The packet's length, for connection IDs of so many bytes in all and a list of so many entries
+abbrev pub countOf : ℕ → ℕ → ℕ
+countOf ids entries = 7 + (ids + versionBytes * entries)
+
+-- How many entries a packet lists
+abbrev pub sentEntries : List ℕ → List ℕ → ℕ
+sentEntries offered reserved = length offered + length reserved
 
 -- The answer to a complete long form: what is left to judge is the offer
-unfoldable pub offerAnswer : List ℕ → List ℕ → ℕ → ℕ → Reply (List ℕ)
-offerAnswer received offered unusedBits room =
-    judged Writing (offerRules (versionOf received) (packetLength received offered) offered unusedBits room)
-    (answered (packetFor received offered unusedBits))
+unfoldable pub offerAnswer : List ℕ → List ℕ → List ℕ → ℕ → ℕ → Reply (List ℕ)
+offerAnswer received offered reserved unusedBits room =
+    judged Writing
+    (offerRules (versionOf received) (packetLength received (listSent offered reserved)) offered reserved unusedBits room)
+    (answered (packetFor received (listSent offered reserved) unusedBits))

@@ -1,0 +1,2 @@
+pub mod ClientInformation
+pub mod Parts
