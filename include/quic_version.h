@@ -33,7 +33,7 @@ extern "C" {
 
 /* The release, and the interface that this header describes. */
 #define QV_RELEASE "0.1.0"
-#define QV_INTERFACE_VERSION 7u
+#define QV_INTERFACE_VERSION 8u
 
 /* On a function that answers a refusal: the compiler warns where the answer is not looked at. */
 #if defined(__GNUC__)
@@ -46,6 +46,7 @@ extern "C" {
 #define QV_MAX_TABLE 64u            /* entries of a table of versions */
 #define QV_MAX_PAIRS 1024u          /* pairs of a table of compatible pairs, and barred pairs */
 #define QV_MAX_BARRED 64u           /* barred versions of a server's choice */
+#define QV_MAX_RESERVED 4u          /* reserved numbers of a packet, or of a client's list */
 #define QV_MAX_LIST 16382u          /* entries of a list to choose from */
 #define QV_MAX_ID 20u               /* bytes of an attempt's connection ID */
 #define QV_MAX_DATAGRAM 65535u      /* bytes of a datagram */
@@ -60,7 +61,7 @@ extern "C" {
 /* The fewest bytes of a datagram that is answered with a packet (RFC 9000 section 14.1). */
 #define QV_MIN_ANSWERED_DATAGRAM 1200u
 /* Bytes of a Version Negotiation packet that is written. */
-#define QV_MAX_PACKET (7u + 2u * QV_MAX_CONNECTION_ID + 4u * QV_MAX_TABLE)
+#define QV_MAX_PACKET (7u + 2u * QV_MAX_CONNECTION_ID + 4u * (QV_MAX_TABLE + QV_MAX_RESERVED))
 
 /* Refusals: the numbers of document 01's table, which document 02's join, each with one cause. */
 #define QV_OK 0u
@@ -74,6 +75,8 @@ extern "C" {
 #define QV_RECEIVED_VERSION_OFFERED 24u      /* the received version is in the offered table */
 #define QV_UNUSED_BITS_TOO_LARGE 25u         /* unused bits over 127 */
 #define QV_NO_ROOM_FOR_PACKET 26u            /* the buffer is shorter than the packet */
+#define QV_BAD_RESERVED_IN_PACKET 28u        /* a number after the offered table is not reserved,
+                                                repeated or received, or over four are given */
 #define QV_INFORMATION_TOO_SHORT 31u         /* under 4 bytes */
 #define QV_INFORMATION_NOT_IN_FOURS 32u      /* length not a multiple of four */
 #define QV_INFORMATION_TOO_LONG 33u          /* over 1,024 bytes, or over 255 entries to write */
@@ -88,6 +91,9 @@ extern "C" {
                                                 or over 64 versions are barred */
 #define QV_ORIGINAL_NOT_IN_TABLE 44u         /* the Original Version is not in the table */
 #define QV_CONNECTION_ID_TOO_LONG 45u        /* a connection ID over 20 bytes */
+#define QV_BAD_RESERVED_IN_LIST 47u          /* a number for the own list is not reserved or
+                                                repeated, a place is taken twice or past the end,
+                                                or over four are given */
 #define QV_CHOSEN_NOT_RECEIVED 51u           /* Chosen is not the first flight's version */
 #define QV_NOT_VERSION_NEGOTIATION 61u       /* no readable Version Negotiation packet */
 #define QV_TOO_LATE 62u                      /* ended; or Version Negotiation after acted or heard */
@@ -121,6 +127,15 @@ extern "C" {
 struct qv_pair {
     uint32_t from;
     uint32_t to;
+};
+
+/*
+ * A reserved number (0x?a?a?a?a, RFC 9000 section 15) for a client's list, and its place in the list
+ * as it is sent, counted from 0.
+ */
+struct qv_reserved {
+    uint32_t number;
+    uint32_t place;
 };
 
 /*
@@ -170,7 +185,7 @@ uint32_t qv_interface_version(void);
  * that a library with another interface does not link (with GCC and Clang; else compare
  * qv_interface_version() with QV_INTERFACE_VERSION at the start).
  */
-uint32_t qv_interface_7(void);
+uint32_t qv_interface_8(void);
 #if defined(__GNUC__)
 #if defined(__has_attribute)
 #if __has_attribute(retain)
@@ -180,7 +195,7 @@ uint32_t qv_interface_7(void);
 #ifndef QV_KEPT
 #define QV_KEPT __attribute__((used))
 #endif
-static uint32_t (*const qv_linked_interface)(void) QV_KEPT = qv_interface_7;
+static uint32_t (*const qv_linked_interface)(void) QV_KEPT = qv_interface_8;
 #endif
 
 /* sizeof(struct qv_attempt) as the library has it. */
@@ -239,15 +254,19 @@ uint32_t qv_read_header(const uint8_t *datagram, size_t datagram_len, size_t tol
 
 /*
  * Writes the Version Negotiation packet that answers a received datagram: IDs swapped, then the
- * offered table in its order. `received` is the whole datagram as it came, not one packet of it:
- * its length is judged.
- * Refusals, in order: 11, 12, 20, 21, 22, 23, 24, 25, 26. They leave buffer and count as found.
+ * offered table in its order, then the reserved numbers in theirs (RFC 9000 section 6.3).
+ * `received` is the whole datagram as it came, not one packet of it: its length is judged.
+ * `reserved` has 0 to QV_MAX_RESERVED numbers, all of them reserved, none twice, none the version
+ * received.
+ * Refusals, in order: 11, 12, 20, 21, 22, 23, 24, 25, 26 (all numbers given are counted, however
+ * many), 28. They leave buffer and count as found.
  * Else: *count bytes are written, at most QV_MAX_PACKET and never more than were received; bytes
  * past them keep their values.
  */
 QV_CHECKED
 uint32_t qv_write_version_negotiation(const uint8_t *received, size_t received_len,
                                       const uint32_t *offered, size_t offered_len,
+                                      const uint32_t *reserved, size_t reserved_len,
                                       uint8_t unused_bits, uint8_t *buffer, size_t buffer_len,
                                       size_t *count);
 
@@ -457,9 +476,10 @@ uint32_t qv_event(struct qv_attempt *attempt, uint32_t kind, uint32_t value, con
                   size_t bytes_len);
 
 /*
- * The own list of an attempt: every table entry that is the attempted version, or is paired from it
- * by a pair that is not barred, in table order. It goes into the client's Version Information as
- * Available Versions.
+ * The own list of an attempt, as may be answered: every table entry that is the attempted version,
+ * or is paired from it by a pair that is not barred, in table order. It goes into the client's
+ * Version Information as Available Versions: qv_write_client_information writes it there, as sent,
+ * which may be with reserved numbers.
  * `versions` has QV_MAX_TABLE places; neither it nor *count lies in the record, which is only read.
  * Refusal: 255 (see struct qv_attempt), which leaves versions and count as found.
  * Else: *count versions; places past them keep their values.
@@ -467,6 +487,24 @@ uint32_t qv_event(struct qv_attempt *attempt, uint32_t kind, uint32_t value, con
 QV_CHECKED
 uint32_t qv_own_list(const struct qv_attempt *attempt, uint32_t versions[QV_MAX_TABLE],
                      size_t *count);
+
+/*
+ * Writes the client's Version Information from its record: the attempted version as Chosen, then
+ * the own list as sent, with the reserved numbers at their places (RFC 9000 section 6.3) and the
+ * entries of the own list, in their order, at the others.
+ * `reserved` has 0 to QV_MAX_RESERVED numbers, all of them reserved, none twice; no place twice, and
+ * none at or past the end of the list as sent, which has an entry for each of the own list and for
+ * each number given.
+ * This is no event. The record is only read, and may have ended; neither the buffer nor *count lies
+ * in it.
+ * Refusals, in order: 255 (see struct qv_attempt), 37 (all numbers given are counted, however many),
+ * 47. They leave buffer and count as found.
+ * Else: *count bytes are written, at most QV_MAX_INFORMATION; bytes past them keep their values.
+ */
+QV_CHECKED
+uint32_t qv_write_client_information(const struct qv_attempt *attempt,
+                                     const struct qv_reserved *reserved, size_t reserved_len,
+                                     uint8_t *buffer, size_t buffer_len, size_t *count);
 
 /*
  * Each event by its own name; refusals as qv_event's.
@@ -522,6 +560,9 @@ static inline const char *qv_refusal_text(uint32_t number)
     case QV_RECEIVED_VERSION_OFFERED: return "the received version is in the offered table";
     case QV_UNUSED_BITS_TOO_LARGE: return "the unused bits are over 127";
     case QV_NO_ROOM_FOR_PACKET: return "the buffer is shorter than the packet";
+    case QV_BAD_RESERVED_IN_PACKET:
+        return "a number after the offered table is not reserved, repeated or the version "
+               "received, or over four are given";
     case QV_INFORMATION_TOO_SHORT: return "the Version Information has under 4 bytes";
     case QV_INFORMATION_NOT_IN_FOURS:
         return "the length of the Version Information is not a multiple of four";
@@ -539,6 +580,9 @@ static inline const char *qv_refusal_text(uint32_t number)
         return "the compatible or barred pairs break their rule, or over 64 versions are barred";
     case QV_ORIGINAL_NOT_IN_TABLE: return "the Original Version is not in the table";
     case QV_CONNECTION_ID_TOO_LONG: return "a connection ID has over 20 bytes";
+    case QV_BAD_RESERVED_IN_LIST:
+        return "a number for the own list is not reserved or repeated, a place is taken twice or "
+               "past the end, or over four are given";
     case QV_CHOSEN_NOT_RECEIVED:
         return "the Chosen Version is not the version of the first flight";
     case QV_NOT_VERSION_NEGOTIATION:

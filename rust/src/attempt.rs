@@ -1,9 +1,9 @@
 //! The client's attempt, from its first version to its end.
 
 use crate::ffi::{self, Record, MAX_TABLE};
-use crate::refusal::answer;
+use crate::refusal::{answer, written};
 use crate::shown::{List, Version};
-use crate::{Pair, Refusal};
+use crate::{Pair, Refusal, WriteRefusal};
 use std::fmt;
 use std::ops::Deref;
 
@@ -38,6 +38,26 @@ impl fmt::Debug for End {
                 .finish(),
             End::Closed(refusal) => f.debug_tuple("Closed").field(refusal).finish(),
         }
+    }
+}
+
+/// A reserved number for the list that a client sends, and its place there, counted from 0. See
+/// [`Attempt::write_information`].
+#[repr(C)]
+#[derive(Clone, Copy, PartialEq, Eq, Hash)]
+pub struct Reserved {
+    /// The number: 0x?a?a?a?a (RFC 9000 section 15).
+    pub number: u32,
+    /// Its place in the list as it is sent.
+    pub place: u32,
+}
+
+impl fmt::Debug for Reserved {
+    fn fmt(&self, f: &mut fmt::Formatter<'_>) -> fmt::Result {
+        f.debug_struct("Reserved")
+            .field("number", &Version(self.number))
+            .field("place", &self.place)
+            .finish()
     }
 }
 
@@ -217,9 +237,10 @@ impl Attempt {
         }
     }
 
-    /// The own list: every table entry that is the attempted version, or is paired from it by a
-    /// pair that is not barred, in table order. It goes into the client's Version Information as
-    /// Available Versions.
+    /// The own list, as may be answered: every table entry that is the attempted version, or is
+    /// paired from it by a pair that is not barred, in table order. It goes into the client's
+    /// Version Information as Available Versions: [`Attempt::write_information`] writes it there,
+    /// as sent, which may be with reserved numbers.
     pub fn own_list(&self) -> OwnList {
         let mut own = OwnList {
             versions: [0; MAX_TABLE],
@@ -229,6 +250,46 @@ impl Attempt {
         let number = ffi::own_list(&self.record, &mut own.versions, &mut own.count);
         debug_assert_eq!(number, 0);
         own
+    }
+
+    /// Writes the client's Version Information: the attempted version as Chosen, then the own list
+    /// as sent. Each reserved number stands at its place; the entries of the own list, in their
+    /// order, fill the other places. Reserved numbers test that a server ignores versions that it
+    /// does not know (RFC 9000 section 6.3). The answer is the count of bytes written, at most
+    /// [`MAX_INFORMATION`](crate::MAX_INFORMATION); bytes of the buffer past it keep their values.
+    ///
+    /// There are up to [`MAX_RESERVED`](crate::MAX_RESERVED) reserved numbers, none twice. Places
+    /// are counted from 0, and are below the number of entries of both kinds; none is taken twice.
+    /// This is no event: the attempt stays as it is, and may have ended.
+    ///
+    /// ```
+    /// # use quic_version::{read_information, versions, Attempt, Pair, Reserved, Sender};
+    /// let pairs = [Pair { from: 1, to: 2 }, Pair { from: 1, to: 3 }];
+    /// let attempt = Attempt::start(&[3, 2, 1], &pairs, 1, &[0xd1], &[0x51])?;
+    /// let reserved = [Reserved { number: 0x1a2a_3a4a, place: 2 }];
+    /// let mut buffer = [0; 64];
+    /// let count = attempt.write_information(&reserved, &mut buffer)?;
+    /// let sent = read_information(Sender::Client, &buffer[..count])?;
+    /// assert_eq!(sent.chosen, 1);
+    /// assert!(versions(sent.available).eq([3, 2, 0x1a2a_3a4a, 1]));
+    /// # Ok::<(), Box<dyn std::error::Error>>(())
+    /// ```
+    ///
+    /// # Errors
+    ///
+    /// They leave the buffer as found, and close nothing. In this order:
+    /// - [`NoRoomForInformation`](WriteRefusal::NoRoomForInformation) (37): the buffer is shorter
+    ///   than the information, with all numbers given, however many;
+    /// - [`BadReservedInList`](WriteRefusal::BadReservedInList) (47): a number is not reserved or is
+    ///   repeated, a place is taken twice or past the end, or over four are given.
+    pub fn write_information(
+        &self,
+        reserved: &[Reserved],
+        buffer: &mut [u8],
+    ) -> Result<usize, WriteRefusal> {
+        let mut count = 0;
+        let number = ffi::write_client_information(&self.record, reserved, buffer, &mut count);
+        written(number, count)
     }
 }
 

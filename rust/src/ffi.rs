@@ -5,9 +5,9 @@
 //! nothing else. An impossible record or an unknown kind is answered with 255.
 //!
 //! The module is private. Tests and benchmark that call the library by its numbers have this file
-//! as a module of their own; `crate::Pair` is `quic_version::Pair` there too.
+//! as a module of their own; `crate::Pair` and `crate::Reserved` are those of `quic_version` there too.
 
-use crate::Pair;
+use crate::{Pair, Reserved};
 use std::mem::{align_of, size_of};
 
 /// Entries of a table, and places of an own list.
@@ -92,14 +92,16 @@ const _: () = assert!(align_of::<Record>() == 8);
 const _: () = assert!(size_of::<Started>() == RECORD_SIZE + 8);
 const _: () = assert!(size_of::<Pair>() == 8);
 const _: () = assert!(align_of::<Pair>() == 4);
+const _: () = assert!(size_of::<Reserved>() == 8);
+const _: () = assert!(align_of::<Reserved>() == 4);
 const _: () = assert!(size_of::<usize>() == 8);
 
 mod header {
-    use super::{Pair, Record, Started, MAX_TABLE};
+    use super::{Pair, Record, Reserved, Started, MAX_TABLE};
 
     extern "C" {
         pub fn qv_interface_version() -> u32;
-        pub fn qv_interface_7() -> u32;
+        pub fn qv_interface_8() -> u32;
         pub fn qv_record_size() -> usize;
         pub fn qv_known_record() -> Record;
         pub fn qv_close_code(refusal: u32, call: u32) -> u64;
@@ -119,6 +121,8 @@ mod header {
             received_len: usize,
             offered: *const u32,
             offered_len: usize,
+            reserved: *const u32,
+            reserved_len: usize,
             unused_bits: u8,
             buffer: *mut u8,
             buffer_len: usize,
@@ -272,6 +276,14 @@ mod header {
             versions: *mut [u32; MAX_TABLE],
             count: *mut usize,
         ) -> u32;
+        pub fn qv_write_client_information(
+            attempt: *const Record,
+            reserved: *const Reserved,
+            reserved_len: usize,
+            buffer: *mut u8,
+            buffer_len: usize,
+            count: *mut usize,
+        ) -> u32;
     }
 }
 
@@ -279,7 +291,7 @@ mod header {
 /// link with a library of another interface. With Rust 1.63, GNU ld drops it as unused; so build.rs
 /// looks for the name, too.
 #[used]
-static INTERFACE: unsafe extern "C" fn() -> u32 = header::qv_interface_7;
+static INTERFACE: unsafe extern "C" fn() -> u32 = header::qv_interface_8;
 
 /// `qv_interface_version`.
 #[inline]
@@ -288,12 +300,12 @@ pub fn interface_version() -> u32 {
     unsafe { header::qv_interface_version() }
 }
 
-/// `qv_interface_7`, for tests/layout.rs alone.
+/// `qv_interface_8`, for tests/layout.rs alone.
 #[allow(dead_code)]
 #[inline]
-pub fn interface_7() -> u32 {
+pub fn interface_8() -> u32 {
     // SAFETY: it takes nothing.
-    unsafe { header::qv_interface_7() }
+    unsafe { header::qv_interface_8() }
 }
 
 /// `qv_record_size`, for tests/layout.rs alone.
@@ -367,6 +379,7 @@ pub fn read_header(
 pub fn write_version_negotiation(
     received: &[u8],
     offered: &[u32],
+    reserved: &[u32],
     unused_bits: u8,
     buffer: &mut [u8],
     count: &mut usize,
@@ -378,6 +391,8 @@ pub fn write_version_negotiation(
             received.len(),
             offered.as_ptr(),
             offered.len(),
+            reserved.as_ptr(),
+            reserved.len(),
             unused_bits,
             buffer.as_mut_ptr(),
             buffer.len(),
@@ -664,4 +679,25 @@ pub fn event(attempt: &mut Record, kind: u32, value: u32, bytes: &[u8]) -> u32 {
 pub fn own_list(attempt: &Record, versions: &mut [u32; MAX_TABLE], count: &mut usize) -> u32 {
     // SAFETY: references do not overlap, any record is allowed.
     unsafe { header::qv_own_list(attempt, versions, count) }
+}
+
+/// `qv_write_client_information`.
+#[inline]
+pub fn write_client_information(
+    attempt: &Record,
+    reserved: &[Reserved],
+    buffer: &mut [u8],
+    count: &mut usize,
+) -> u32 {
+    // SAFETY: a slice is valid for its length, references do not overlap, any record is allowed.
+    unsafe {
+        header::qv_write_client_information(
+            attempt,
+            reserved.as_ptr(),
+            reserved.len(),
+            buffer.as_mut_ptr(),
+            buffer.len(),
+            count,
+        )
+    }
 }

@@ -5,7 +5,9 @@
 //! and lists as words ([`list_word`]). A server gets a writer of Version Negotiation packets and the
 //! choice after a first flight. A client gets an [`Attempt`], from its first version to its end.
 //! Where not every flight converts, though the versions are compatible, [`Attempt::start_barring`]
-//! and [`server_choice_barring`] take what is barred (RFC 9368 section 2.2).
+//! and [`server_choice_barring`] take what is barred (RFC 9368 section 2.2). Reserved numbers, to
+//! test that the peer ignores them (RFC 9000 section 6.3), go out by [`Attempt::write_information`]
+//! and [`write_version_negotiation_with_reserved`].
 //!
 //! The work is done by the static library of include/quic_version.h. Every function answers for
 //! every input. A [`Refusal`] is one number of document 01's table, and so is a writer's
@@ -57,15 +59,15 @@ pub mod transport_parameters;
 mod wire;
 mod words;
 
-pub use attempt::{Attempt, End, OwnList};
+pub use attempt::{Attempt, End, OwnList, Reserved};
 pub use choice::{
     are_pairs, choose, choose_from_bytes, is_reserved, is_table, server_choice,
     server_choice_barring, Decision, Pair,
 };
 pub use refusal::{Refusal, WriteRefusal};
 pub use wire::{
-    read_header, read_information, versions, write_information, write_version_negotiation, Header,
-    Information, Sender, Versions,
+    read_header, read_information, versions, write_information, write_version_negotiation,
+    write_version_negotiation_with_reserved, Header, Information, Sender, Versions,
 };
 pub use words::{
     choose_by_word, choose_by_word_from_bytes, choose_from_word, count_held, count_held_from_bytes,
@@ -85,13 +87,15 @@ pub const VERSION_2: u32 = 0x6b33_43cf;
 /// The release: this crate's version, and that of the library with it.
 pub const RELEASE: &str = env!("CARGO_PKG_VERSION");
 /// The interface that this crate is written for. With a library of another one it does not link.
-pub const INTERFACE_VERSION: u32 = 7;
+pub const INTERFACE_VERSION: u32 = 8;
 /// The most entries of a table of versions.
 pub const MAX_TABLE: usize = ffi::MAX_TABLE;
 /// The most pairs of a table of compatible pairs, and the most barred pairs.
 pub const MAX_PAIRS: usize = 1_024;
 /// The most barred versions of a server's choice.
 pub const MAX_BARRED: usize = 64;
+/// The most reserved numbers of a Version Negotiation packet, and of a client's list.
+pub const MAX_RESERVED: usize = 4;
 /// The most entries of a list to choose from.
 pub const MAX_LIST: usize = 16_382;
 /// The most bytes of an attempt's connection ID.
@@ -111,7 +115,7 @@ pub const MAX_INFORMATION: usize = 1_024;
 pub const MAX_AVAILABLE: usize = 255;
 /// The most bytes of a Version Negotiation packet that is written; a buffer of this size is never
 /// too short.
-pub const MAX_PACKET: usize = 7 + 2 * MAX_CONNECTION_ID + 4 * MAX_TABLE;
+pub const MAX_PACKET: usize = 7 + 2 * MAX_CONNECTION_ID + 4 * (MAX_TABLE + MAX_RESERVED);
 
 /// The version of the library's interface: [`INTERFACE_VERSION`].
 pub fn interface_version() -> u32 {

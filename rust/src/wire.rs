@@ -162,7 +162,7 @@ impl fmt::Debug for Versions<'_> {
 /// Writes the Version Negotiation packet that answers a received datagram: the received IDs
 /// swapped, then the offered table in its order. The answer is the count of bytes written, at most
 /// [`MAX_PACKET`](crate::MAX_PACKET) and never more than were received; bytes of the buffer past it
-/// keep their values.
+/// keep their values. [`write_version_negotiation_with_reserved`] puts reserved numbers at its end.
 ///
 /// `received` is the whole datagram as it came, not one packet of it: its length is judged.
 ///
@@ -189,8 +189,51 @@ pub fn write_version_negotiation(
     unused_bits: u8,
     buffer: &mut [u8],
 ) -> Result<usize, WriteRefusal> {
+    write_version_negotiation_with_reserved(received, offered, &[], unused_bits, buffer)
+}
+
+/// As [`write_version_negotiation`], with reserved numbers after the offered table, in the order
+/// given: they test that a client ignores versions that it does not know (RFC 9000 section 6.3).
+/// There are up to [`MAX_RESERVED`](crate::MAX_RESERVED) of them, none twice, none the version
+/// received.
+///
+/// ```
+/// # use quic_version::{versions, write_version_negotiation_with_reserved, MAX_PACKET};
+/// // A first flight in version 12, from connection ID cc to aa bb.
+/// let mut received = vec![0xc0, 0, 0, 0, 12, 2, 0xaa, 0xbb, 1, 0xcc, 0xff];
+/// received.resize(1_200, 0);
+/// let (offered, reserved) = ([14, 13], [0x1a2a_3a4a]);
+/// let mut packet = [0; MAX_PACKET];
+/// let count =
+///     write_version_negotiation_with_reserved(&received, &offered, &reserved, 64, &mut packet)?;
+/// assert!(versions(&packet[10..count]).eq([14, 13, 0x1a2a_3a4a]));
+/// # Ok::<(), quic_version::WriteRefusal>(())
+/// ```
+///
+/// # Errors
+///
+/// They leave the buffer as found, and close nothing. In this order:
+/// - 11, 12 and 20 to 25, as [`write_version_negotiation`];
+/// - [`NoRoomForPacket`](WriteRefusal::NoRoomForPacket) (26): the buffer is shorter than the
+///   packet, with all numbers given, however many;
+/// - [`BadReservedInPacket`](WriteRefusal::BadReservedInPacket) (28): a number is not reserved, is
+///   the version received or is repeated, or over four are given.
+pub fn write_version_negotiation_with_reserved(
+    received: &[u8],
+    offered: &[u32],
+    reserved: &[u32],
+    unused_bits: u8,
+    buffer: &mut [u8],
+) -> Result<usize, WriteRefusal> {
     let mut count = 0;
-    let number = ffi::write_version_negotiation(received, offered, unused_bits, buffer, &mut count);
+    let number = ffi::write_version_negotiation(
+        received,
+        offered,
+        reserved,
+        unused_bits,
+        buffer,
+        &mut count,
+    );
     written(number, count)
 }
 

@@ -20,7 +20,7 @@ use Rattle.invariants.specs.Limits.{maxConnectionID, maxDatagram}
 use Rattle.invariants.specs.declared.Header.{Header}
 use Rattle.invariants.specs.declared.Header.the-variants.{Long}
 use Rattle.negotiation.specs.Limits.{minAnsweredDatagram}
-use Rattle.negotiation.specs.Packet.{packetLength, packetFor, offerRules, packetRules, negotiationPacket}
+use Rattle.negotiation.specs.Packet.{listSent, packetLength, packetFor, offerRules, packetRules, negotiationPacket}
 use Rattle.negotiation.specs.Parts.{Lengths, writerNumber, smallNumber, offerAnswer}
 use Rattle.negotiation.proofs.Packets.{second-false}
 
@@ -66,39 +66,39 @@ same-tests false false true true true v d s r d′ r′ rules rest = refl
 same-tests false false true true false v d s r d′ r′ rules rest = refl
 same-tests false false true false broken v d s r d′ r′ rules rest = refl
 
-by-header-small : (r o : List ℕ) (bits room : ℕ) → length r < minAnsweredDatagram
-    → negotiationPacket r o bits room ≡ refuse Writing (smallNumber (readHeader r 0))
+by-header-small : (r o n : List ℕ) (bits room : ℕ) → length r < minAnsweredDatagram
+    → negotiationPacket r o n bits room ≡ refuse Writing (smallNumber (readHeader r 0))
 unfolding negotiationPacket readHeader
-by-header-small r o bits room small =
+by-header-small r o n bits room small =
     rw (same-12 r, lt-ltb (length r) minAnsweredDatagram small)
     (same-small (ltb maxDatagram (length r)) (eqb (length r) 0 || (isLong r && longTruncated r))
     ((isLong r && eqb (versionOf r) 0) && notWhole (restOf r)) (formOf r 0)
-    (drop 3 (packetRules r o bits room)) (answered (packetFor r o bits)))
+    (drop 3 (packetRules r o n bits room)) (answered (packetFor r (listSent o n) bits)))
 
-by-header : (r o : List ℕ) (bits room : ℕ) → minAnsweredDatagram ≤ length r
-    → negotiationPacket r o bits room ≡ byHeader (readHeader r 0) (offerAnswer r o bits room)
+by-header : (r o n : List ℕ) (bits room : ℕ) → minAnsweredDatagram ≤ length r
+    → negotiationPacket r o n bits room ≡ byHeader (readHeader r 0) (offerAnswer r o n bits room)
 unfolding negotiationPacket readHeader offerAnswer
-by-header r o bits room large =
+by-header r o n bits room large =
     rw (same-12 r, le-ltb (length r) minAnsweredDatagram large)
     (same-tests (ltb maxDatagram (length r)) (eqb (length r) 0 || (isLong r && longTruncated r)) (isLong r)
     (eqb (versionOf r) 0) (notWhole (restOf r)) (versionOf r) (span 6 (6 + destinationLength r))
     (span (sourceStart r) (restStart r)) (span (restStart r) (length r)) (span 1 1) (span 1 (length r))
-    (offerRules (versionOf r) (packetLength r o) o bits room) (answered (packetFor r o bits)))
+    (offerRules (versionOf r) (packetLength r (listSent o n)) o n bits room) (answered (packetFor r (listSent o n) bits)))
 
 -- The same by an answer of `read_header`, whole or by its case
-pub by-reply-small : (r o : List ℕ) (bits room : ℕ) (h : Header) → length r < minAnsweredDatagram
+pub by-reply-small : (r o n : List ℕ) (bits room : ℕ) (h : Header) → length r < minAnsweredDatagram
     → headerReply h ≡ readHeader r 0
-    → negotiationPacket r o bits room ≡ refuse Writing (smallNumber (headerReply h))
-by-reply-small r o bits room h small e =
-    by-header-small r o bits room small ∙
+    → negotiationPacket r o n bits room ≡ refuse Writing (smallNumber (headerReply h))
+by-reply-small r o n bits room h small e =
+    by-header-small r o n bits room small ∙
     ap (λ (reply : Reply Form). refuse Writing (smallNumber reply)) (sym e)
 
-pub by-reply : (r o : List ℕ) (bits room : ℕ) (h h′ : Header) → minAnsweredDatagram ≤ length r
+pub by-reply : (r o n : List ℕ) (bits room : ℕ) (h h′ : Header) → minAnsweredDatagram ≤ length r
     → headerReply h ≡ readHeader r 0 → h ≡ h′
-    → negotiationPacket r o bits room ≡ byHeader (headerReply h′) (offerAnswer r o bits room)
-by-reply r o bits room h h′ large e is =
-    by-header r o bits room large ∙
-    ap (λ (reply : Reply Form). byHeader reply (offerAnswer r o bits room)) (sym e ∙ ap headerReply is)
+    → negotiationPacket r o n bits room ≡ byHeader (headerReply h′) (offerAnswer r o n bits room)
+by-reply r o n bits room h h′ large e is =
+    by-header r o n bits room large ∙
+    ap (λ (reply : Reply Form). byHeader reply (offerAnswer r o n bits room)) (sym e ∙ ap headerReply is)
 
 -- ---- a long form that was answered
 

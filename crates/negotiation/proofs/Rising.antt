@@ -6,12 +6,12 @@ use mathlib.Core.Path.{_≡_, refl}
 use Rattle.refusals.specs.Rule.{rising}
 use Rattle.negotiation.specs.Packet.{offerRules, packetRules}
 
--- 23 to 26
-pub offer-rises : (version count : ℕ) (offered : List ℕ) (unusedBits room : ℕ) →
-    rising (offerRules version count offered unusedBits room) ≡ true
-offer-rises version count offered unusedBits room = refl
+-- 23 to 26, 28
+pub offer-rises : (version count : ℕ) (offered reserved : List ℕ) (unusedBits room : ℕ) →
+    rising (offerRules version count offered reserved unusedBits room) ≡ true
+offer-rises version count offered reserved unusedBits room = refl
 
 -- 11, 12, 20, 21, 22, then those
-pub packet-rises : (received offered : List ℕ) (unusedBits room : ℕ) →
-    rising (packetRules received offered unusedBits room) ≡ true
-packet-rises received offered unusedBits room = refl
+pub packet-rises : (received offered reserved : List ℕ) (unusedBits room : ℕ) →
+    rising (packetRules received offered reserved unusedBits room) ≡ true
+packet-rises received offered reserved unusedBits room = refl

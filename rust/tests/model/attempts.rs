@@ -91,7 +91,7 @@ pub fn start(
 impl Attempt {
     /// "Its own list is every table entry, in table order, that is the
     /// attempted version or is paired from it." Document 02, C-17: "The own list
-    /// leaves barred ones out".
+    /// leaves barred ones out". Of C-18's two it is the one "as may be answered".
     pub fn own_list(&self) -> Vec<u32> {
         let barred = paired_from(&self.barred, self.attempted);
         let own = itself_or_paired_from(&self.pairs, &barred, self.attempted);
@@ -182,7 +182,8 @@ impl Attempt {
             (None, false) if in_use == self.attempted => return Ok(()),
             (None, false) => return Err(73),
         };
-        // Rule 72 reads "the shorter list" (document 02, C-17).
+        // Rule 72 reads "the shorter list" (document 02, C-17), as may be
+        // answered: "so a reserved Chosen falls under 72" (C-18).
         if !self.own_list().contains(&chosen) {
             return Err(72);
         }

@@ -1,5 +1,5 @@
 //! A second reading of document 01, and of document 02 as far as it is there (C-11, C-13 to C-15,
-//! C-17), in plain Rust, to compare the library with.
+//! C-17, C-18), in plain Rust, to compare the library with.
 //!
 //! It is written from the paper's sentences with sets, slices and iterators;
 //! speed is no aim. Refusals are the paper's numbers. Quoted comments are
@@ -11,6 +11,7 @@ mod attempts;
 mod choices;
 mod completed;
 mod parameters;
+mod reserved;
 mod wire;
 mod words;
 
@@ -18,6 +19,7 @@ pub use attempts::*;
 pub use choices::*;
 pub use completed::*;
 pub use parameters::*;
+pub use reserved::*;
 pub use wire::*;
 pub use words::*;
 
@@ -34,6 +36,12 @@ pub const MAX_TABLE: usize = 64;
 pub const MAX_PAIRS: usize = 1_024;
 /// Document 02, C-17: "up to 64 barred versions, of any value, for the flight at hand (more: 43)"
 pub const MAX_BARRED: usize = 64;
+/// Document 02, C-18: "up to four distinct reserved numbers" in a client's list; "the box's packet may
+/// end with up to four"
+pub const MAX_RESERVED: usize = 4;
+/// "at most 581"; document 02, C-14: "the largest packet sent is 773 bytes"; C-18: "The packet's size
+/// limit grows by 16."
+pub const MAX_PACKET: usize = 773 + 16;
 /// "0 to 255 Available Versions of 4 bytes"
 pub const MAX_AVAILABLE: usize = 255;
 /// "4 to 1,024 bytes"
@@ -57,7 +65,8 @@ pub const VERSION_INFORMATION: u64 = 0x11;
 /// The close code of a refusal: 0x08 for 31 to 36, 0x11 for 51 and 71 to 75.
 /// "A writer's 33 to 36 close nothing"; no writer's refusal has a code.
 /// Document 02, C-11: "New numbers, here and later, join document 01's table
-/// without a close code, but this reader's have 0x08": 80, 81, 82 and 85.
+/// without a close code, but this reader's have 0x08": 80, 81, 82 and 85. C-18's
+/// 28 and 47 have none.
 pub fn close_code(number: u32, writer: bool) -> Option<u64> {
     match number {
         _ if writer => None,

@@ -2,6 +2,7 @@
 //! Version Information.
 
 use super::choices::{is_table, set};
+use super::reserved::may_be_sent;
 use super::{MAX_AVAILABLE, MAX_DATAGRAM, MAX_INFORMATION};
 use super::{MAX_UNUSED_BITS, MAX_WIRE_ID, MIN_ANSWERED};
 use std::ops::Range;
@@ -17,7 +18,7 @@ pub fn list_on_the_wire(bytes: &[u8]) -> Vec<u32> {
     bytes.chunks_exact(4).map(number).collect()
 }
 
-fn written(versions: &[u32]) -> Vec<u8> {
+pub(super) fn written(versions: &[u32]) -> Vec<u8> {
     versions.iter().flat_map(|v| v.to_be_bytes()).collect()
 }
 
@@ -131,11 +132,12 @@ pub fn read_header(datagram: &[u8], told: usize) -> Result<Header, u8> {
     })
 }
 
-/// The packet the server sends back: 11, 12, 20 to 26. `room` is the length of
-/// the lent buffer; the answer's length is the byte count.
+/// The packet the server sends back: 11, 12, 20 to 26, 28. `room` is the length
+/// of the lent buffer; the answer's length is the byte count.
 pub fn version_negotiation(
     received: &[u8],
     offered: &[u32],
+    reserved: &[u32],
     unused_bits: u8,
     room: usize,
 ) -> Result<Vec<u8>, u8> {
@@ -169,17 +171,25 @@ pub fn version_negotiation(
     }
     // "first byte 128 plus that number, version 0, the received source ID as
     // destination, the received destination ID as source (each with its
-    // length), then the offered table in its order"
+    // length), then the offered table in its order". Document 02, C-18: "the
+    // box's packet may end with up to four, in the order given".
     let packet = [
         vec![128 + unused_bits],
         written(&[0]),
         counted(long.source),
         counted(long.destination),
         written(offered),
+        written(reserved),
     ]
     .concat();
+    // Document 02, C-18: "26 and 37 count all given".
     if room < packet.len() {
         return Err(26);
+    }
+    // "Where a number is not reserved, is the version received (packet),
+    // repeated, or there are over four"
+    if !may_be_sent(reserved) || reserved.contains(&long.version) {
+        return Err(28);
     }
     Ok(packet)
 }

@@ -17,7 +17,7 @@ use Rattle.negotiation.proofs.write_version_negotiation.Tie as tie
 
 -- The start, seen from the header reader's answer, and the datagram that is large enough, seen from its long form
 abbrev start : tie.After-read-header → tie.Start
-start c = c .before .before .before .before
+start c = c .before .before .before .before .before
 
 abbrev large : tie.After-header2 → tie.Else1
 large c = c .before .before
@@ -27,9 +27,13 @@ decides :
     (c : tie.Else1) (h : Header) →
     c .before .read-header .result ≡ h →
     let args = start (c .before) .args in
-    negotiationPacket (now (args .received)) (now (args .offered)) (args .unused-bits) (length (now (args .buffer))) ≡
-    byHeader (headerReply h) (offerAnswer (now (args .received)) (now (args .offered)) (args .unused-bits) (length (now (args .buffer))))
-decides c h is = by-reply _ _ _ _ _ h (c .if1 .left) (c .before .read-header .ensures) is
+    let received = now (args .received) in
+    let offered = now (args .offered) in
+    let reserved = now (args .reserved) in
+    let room = length (now (args .buffer)) in
+    negotiationPacket received offered reserved (args .unused-bits) room ≡
+    byHeader (headerReply h) (offerAnswer received offered reserved (args .unused-bits) room)
+decides c h is = by-reply _ _ _ _ _ _ h (c .if1 .left) (c .before .read-header .ensures) is
 
 -- What a long form tells
 known :
@@ -39,7 +43,7 @@ known :
 known c =
     let read = large c .before in
     long-by-reply _ _ _ _ _ _ (read .read-header .ensures) (c .header2 .given .1)
-    (λ i. omega (arith, read .before .before .before .shared-slice-known .given i))
+    (λ i. omega (arith, read .before .before .before .before .shared-slice-known .given i))
 
 read-header-requires : tie.Need-read-header-requires
 read-header-requires c κs = search needs
@@ -75,7 +79,7 @@ returns : tie.Need-returns
 returns c =
     let answer = c .before .before .read-header in
     refuses _ _ _
-    (by-reply-small _ _ _ _ (answer .result) (c .before .if1 .taken) (answer .ensures) ∙
+    (by-reply-small _ _ _ _ _ (answer .result) (c .before .if1 .taken) (answer .ensures) ∙
     ap (refuse Writing) (sym (c .of-small .ensures)))
 
 returns-2 : tie.Need-returns-2
