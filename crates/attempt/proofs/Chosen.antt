@@ -58,7 +58,7 @@ module _ (t l : List ℕ) (keeps : tableKeepsRule t ≡ true) (within : length l
   )
 
 -- 41: the table of an accepted start keeps its rule (`start-keeps`), and no event changes it
-attempt-keeps : (a : Attempt) → Reachable a → tableKeepsRule (tableOf a) ≡ true
+pub attempt-keeps : (a : Attempt) → Reachable a → tableKeepsRule (tableOf a) ≡ true
 attempt-keeps a r =
     every-attempt Kept kept (λ x h. rw (opened-reads x .table) (start-keeps x h)) a r
   where

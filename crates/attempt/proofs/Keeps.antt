@@ -109,6 +109,9 @@ not-broken false refuses h = refl
 pub start-keeps : (x : Input) → isAccepted x ≡ true → tableKeepsRule (x .table) ≡ true
 start-keeps x h = not-false _ (not-broken (not (tableKeepsRule (x .table))) (λ e. simp (e, and-false)) h)
 
+pub start-original : (x : Input) → isAccepted x ≡ true → elem (x .original) (x .table) ≡ true
+start-original x h = not-false _ (not-broken (not (elem (x .original) (x .table))) (λ e. simp (e, and-false)) h)
+
 -- What is judged of any record value holds of every attempt
 
 abbrev Passing : Attempt → Type 0
@@ -128,11 +131,10 @@ passing-kept a c =
 opened-passes : (x : Input) → isAccepted x ≡ true → Passing (opened x)
 unfolding opened
 opened-passes x h =
-    let original = not-broken (not (elem (x .original) (x .table))) (λ e. simp (e, and-false)) h in
     let destination = not-broken (ltb maxID (length (x .destination))) (λ e. simp (e, and-false)) h in
     let source = not-broken (ltb maxID (length (x .source))) (λ e. simp (e, or-true, and-false)) h in
     let counts = table-counts (x .table) (start-keeps x h) in
-    fits (counts .1) (ltb-false _ _ destination) (ltb-false _ _ source) (not-false _ original)
+    fits (counts .1) (ltb-false _ _ destination) (ltb-false _ _ source) (start-original x h)
   where
     fits : length (x .table) ≤ maxTable → length (x .destination) ≤ maxID → length (x .source) ≤ maxID →
         elem (x .original) (x .table) ≡ true → Passing (opened x)

@@ -1,3 +1,4 @@
+pub mod AsSent
 pub mod Barred
 pub mod Chosen
 pub mod Completing
@@ -10,6 +11,7 @@ pub mod Phases
 pub mod PlainData
 pub mod Reaching
 pub mod Repeated
+pub mod ReservedChosen
 pub mod Rising
 pub mod Walks
 pub mod Worked

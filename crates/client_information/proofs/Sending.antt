@@ -8,10 +8,12 @@ use native.Mathlib.Numerals.{add-one}
 use native.Mathlib.Omega.{arith}
 use lib.ListN.{length, drop, length-append}
 use lib.Seq.{drop-drop}
-use Rattle.lists.specs.Wire.{listBytes, versionBytes, afterPut}
+use Rattle.lists.specs.Wire.{bytesOf, listBytes, versionBytes, afterPut}
 use Rattle.lists.proofs.Entries.{length-listBytes, listBytes-append, afterPut-room}
 use Rattle.lists.proofs.Places.{partFrom, length-partFrom, putFrom, over, length-put}
+use Rattle.information.specs.Information.{informationBytes}
 use Rattle.attempt.specs.AsSent.{givenFor, sentAt, ownAfter, sentFrom, sentCount, listAsSent}
+use Rattle.client_information.specs.ClientInformation.{sentLength}
 use Rattle.client_information.specs.Parts.{nextAfter}
 
 -- ---- the list
@@ -23,9 +25,13 @@ length-sentFrom zero place own given = refl
 length-sentFrom (suc count) place own given =
     ap suc (length-sentFrom count (suc place) (ownAfter (givenFor given place) own) given)
 
-pub length-as-sent : (own : List ℕ) (given : List (List ℕ)) → length (listAsSent own given) ≡ sentCount own given
+length-as-sent : (own : List ℕ) (given : List (List ℕ)) → length (listAsSent own given) ≡ sentCount own given
 unfolding listAsSent
 length-as-sent own given = length-sentFrom (sentCount own given) 0 own given
+
+pub length-sent-bytes : (own : List ℕ) (given : List (List ℕ)) → length (listBytes (listAsSent own given)) ≡ versionBytes * sentCount own given
+length-sent-bytes own given =
+    length-listBytes (listAsSent own given) ∙ ap (λ (n : ℕ). versionBytes * n) (length-as-sent own given)
 
 -- The own list from the place that is next
 own-next : (o : Option ℕ) (own : List ℕ) (next : ℕ) → ownAfter o (drop next own) ≡ drop (nextAfter o next) own
@@ -109,8 +115,24 @@ module _ (own : List ℕ) (given : List (List ℕ)) (found : List ℕ) where
     -- All are put
     pub sending-ends : sentCount own given ≤ place → buffer ≡ listBytes (listAsSent own given) ++ drop (versionBytes * sentCount own given) found
     sending-ends h =
+        let no-more = sent-none (sentCount own given) place (drop next own) given h in
         let all : s .done ≡ listAsSent own given =
-        sym (append-nil (s .done)) ∙ ap (λ (l : List ℕ). s .done ++ l) (sym (sent-none (sentCount own given) place (drop next own) given h)) ∙ s .whole in
-        let n : length (listBytes (listAsSent own given)) ≡ versionBytes * sentCount own given =
-        length-listBytes (listAsSent own given) ∙ ap (λ (n : ℕ). versionBytes * n) (length-as-sent own given) in
-        s .begins ∙ rw (all, n)
+        sym (append-nil (s .done)) ∙ ap (λ (l : List ℕ). s .done ++ l) (sym no-more) ∙ s .whole in
+        s .begins ∙ rw (all, length-sent-bytes own given)
+
+-- ---- the information
+
+-- The Chosen Version put at the front of a buffer, then the list as sent behind it: a writer's count, and its buffer
+pub sent-both :
+    (chosen : ℕ) (own : List ℕ) (given : List (List ℕ)) (found first rest : List ℕ) →
+    let bytes = informationBytes chosen (listAsSent own given) in
+    sentLength own given ≤ length found → first ≡ afterPut (chosen ∷ []) found →
+    rest ≡ listBytes (listAsSent own given) ++ drop (versionBytes * sentCount own given) (partFrom versionBytes first) →
+    (sentLength own given ≡ length bytes) × (putFrom versionBytes first rest ≡ bytes ++ drop (length bytes) found)
+unfolding listBytes
+sent-both chosen own given found first rest room f r =
+    let n = length-sent-bytes own given in
+    let list = listBytes (listAsSent own given) in
+    let one = f ∙ afterPut-room (chosen ∷ []) found (omega arith) in
+    let others = r ∙ ap (λ (k : ℕ). list ++ drop k (partFrom versionBytes first)) (sym n) in
+    (omega arith, over (bytesOf chosen) list found first rest versionBytes refl one others)

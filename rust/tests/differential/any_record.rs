@@ -1,6 +1,6 @@
-//! Events on any record value whatever, drawn from a seed.
+//! Events, and a client's information, on any record value whatever, drawn from a seed.
 
-use crate::checks::check_any_record;
+use crate::checks::{check_any_information, check_any_record};
 use crate::model::{MAX_ID, MAX_TABLE};
 use crate::random::{in_fours, information, long_packet, Random};
 use crate::raw::{self, Record};

@@ -22,7 +22,7 @@ mod screening;
 mod seeded;
 mod seen;
 
-use quic_version::Pair;
+use quic_version::{Pair, Reserved};
 use seen::Seen;
 use std::env;
 use std::io::Write;

@@ -4,16 +4,36 @@ use crate::Found;
 use quic_version::{Refusal, WriteRefusal};
 use std::collections::{BTreeMap, BTreeSet};
 
-/// Document 01's numbers, and document 02's 20 and 80 to 85.
-const NUMBERS: [u8; 40] = [
-    11, 12, 13, 20, 21, 22, 23, 24, 25, 26, 31, 32, 33, 34, 35, 36, 37, 40, 41, 42, 43, 44, 45, 51,
-    61, 62, 63, 64, 65, 71, 72, 73, 74, 75, 80, 81, 82, 83, 84, 85,
+/// Document 01's numbers, and document 02's 20, 28, 47 and 80 to 85.
+const NUMBERS: [u8; 42] = [
+    11, 12, 13, 20, 21, 22, 23, 24, 25, 26, 28, 31, 32, 33, 34, 35, 36, 37, 40, 41, 42, 43, 44, 45,
+    47, 51, 61, 62, 63, 64, 65, 71, 72, 73, 74, 75, 80, 81, 82, 83, 84, 85,
 ];
 
 /// Every answer of the calls that choose from a list or a word, make a word or count, of the server's
-/// choice, of a start and of events, and of those of transport parameters: 0 and the refusals, 255 too
-/// where an unknown presence is tried. All of them have to be seen, and no other.
-const ANSWERS: [(&str, &[u32]); 23] = [
+/// choice, of a start and of events, of those of transport parameters, and of the writers that take
+/// reserved numbers: 0 and the refusals, 255 too where an unknown presence is tried. All of them have
+/// to be seen, and no other.
+const ANSWERS: [(&str, &[u32]); 30] = [
+    (
+        "qv_write_version_negotiation",
+        &[0, 11, 12, 20, 21, 22, 23, 24, 25, 26, 28],
+    ),
+    (
+        "qv_write_version_negotiation, reserved numbers",
+        &[0, 26, 28],
+    ),
+    ("qv_write_client_information", &[0, 37, 47]),
+    ("qv_write_client_information, laws", &[0, 37, 47]),
+    (
+        "qv_server_choice, reserved numbers",
+        &[0, 37, 41, 43, 47, 51],
+    ),
+    ("qv_event, reserved Chosen", &[62, 72]),
+    (
+        "qv_event, reserved numbers listed",
+        &[0, 23, 62, 63, 64, 65],
+    ),
     ("qv_choose", &[0, 40, 41, 42]),
     ("qv_choose_from_bytes", &[0, 40, 41, 42]),
     ("qv_list_word", &[0, 40, 41]),

@@ -15,6 +15,7 @@ pub mod choices;
 pub mod hostile;
 mod packet;
 pub mod parameters;
+pub mod reserved;
 pub mod screening;
 pub mod slots;
 mod versions;

@@ -3,6 +3,7 @@
 
 use super::attempts::StartCall;
 use super::choices::ServerCall;
+use super::versions::is_plain;
 use super::wire::NegotiationCall;
 use super::{information, long_packet, Random};
 use crate::model::{Attempt, Event, MAX_RESERVED, MAX_TABLE, MIN_ANSWERED};
@@ -207,22 +208,31 @@ impl Random {
 
     /// An attempt at its start, or after any events, the end among them; and numbers for its list.
     pub fn client_call(&mut self) -> ClientCall {
-        let (start, events) = match self.below(4) {
-            0 => self.barring_call(),
-            1 => {
-                let start = self.good_start_call();
-                let events = self.events(&start.start().unwrap());
-                (start, events)
-            }
-            _ => {
-                let start = self.start_with_a_long_list();
-                let events = match self.one_in(2) {
-                    true => Vec::new(),
-                    false => self.events(&start.start().unwrap()),
-                };
-                (start, events)
-            }
-        };
+        let start = self.client_start();
+        self.client_call_after(start)
+    }
+
+    /// As `client_call`, with empty connection IDs.
+    pub fn client_call_without_ids(&mut self) -> ClientCall {
+        let mut start = self.client_start();
+        start.destination.clear();
+        start.source.clear();
+        self.client_call_after(start)
+    }
+
+    fn client_start(&mut self) -> StartCall {
+        match self.below(4) {
+            0 => self.barring_call().0,
+            1 => self.good_start_call(),
+            _ => self.start_with_a_long_list(),
+        }
+    }
+
+    fn client_call_after(&mut self, start: StartCall) -> ClientCall {
+        let mut events = Vec::new();
+        if !self.one_in(3) {
+            events = self.events(&start.start().unwrap());
+        }
         let own = after(&start, &events).own_list().len();
         let reserved = self.reserved_in_list(own);
         ClientCall {
@@ -260,12 +270,13 @@ impl Random {
         let version = attempt.attempted;
         c.offered = self.list(&attempt.table);
         c.offered.push(self.plain_version());
-        c.offered.retain(|v| *v != version && super::versions::is_plain(*v));
+        c.offered.retain(|v| *v != version && is_plain(*v));
         c.offered.sort_unstable();
         c.offered.dedup();
         self.shuffle(&mut c.offered);
         c.offered.truncate(MAX_TABLE);
-        c.reserved = self.distinct_reserved(self.clone().below(MAX_RESERVED + 1), version);
+        let count = self.below(MAX_RESERVED + 1);
+        c.reserved = self.distinct_reserved(count, version);
         let rest = vec![9; MIN_ANSWERED];
         c.received = long_packet(0, version, &destination, &source, &rest);
         c

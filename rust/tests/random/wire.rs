@@ -34,6 +34,7 @@ pub struct ReadCall {
 pub struct NegotiationCall {
     pub received: Vec<u8>,
     pub offered: Vec<u32>,
+    pub reserved: Vec<u32>,
     pub unused_bits: u8,
     pub room: usize,
 }
@@ -276,7 +277,12 @@ impl Random {
             0 => 0,
             1 | 2 if !offered.is_empty() => *self.pick(&offered),
             3 => self.version(),
+            4 => self.reserved(),
             _ => self.plain_version_outside(&offered),
+        };
+        let reserved = match self.below(3) {
+            0 => Vec::new(),
+            _ => self.reserved_numbers(version),
         };
         let first = self.next_u64() as u8;
         let rest = self.some_bytes();
@@ -307,8 +313,9 @@ impl Random {
         NegotiationCall {
             received,
             offered,
+            room: self.room_with(need, reserved.len()),
+            reserved,
             unused_bits,
-            room: self.room(need),
         }
     }
 

@@ -1,6 +1,6 @@
 -- `are_given` meets its contract. The loop's invariant: the rest of those that are given answers for the whole.
 use Prim.Native.Nat.{ℕ, _+_, _-_, _≤_, _<_}
-use mathlib.Core.Bool.{true, false}
+use mathlib.Core.Bool.{true}
 use mathlib.Core.List.{List, []}
 use mathlib.Core.Path.{_≡_, sym, ap, _∙_}
 use native.Mathlib.Omega.{arith}
@@ -13,8 +13,6 @@ use Rattle.attempt.specs.AsSent.{numberIn, placeIn, isTaken, eachGivenKeepsRule
 use Rattle.client_information.proofs.Given.{keeps-not-reserved, keeps-past-end, keeps-twice, keeps-next, keeps-end}
 use Rattle.client_information.proofs.are_given.Statement.{statement}
 use Rattle.client_information.proofs.are_given.Tie as tie
-use Rattle.client_information.proofs.are_given.Reads as reads
-use Rattle.client_information.proofs.are_given.Lts as lts
 
 abbrev Inv-loop : tie.InvT-loop
 Inv-loop reserved entries count i₀ i =

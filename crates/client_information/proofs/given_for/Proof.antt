@@ -1,6 +1,6 @@
 -- `given_for` meets its contract. The loop's invariant: the rest of those that are given answers for the whole.
 use Prim.Native.Nat.{_≤_, _-_}
-use mathlib.Core.Path.{_≡_, refl, sym, _∙_}
+use mathlib.Core.Path.{_≡_, sym, _∙_}
 use native.Mathlib.Omega.{arith}
 use borrow.Author.Needs.{needs}
 use lib.ListN.{length, drop}
@@ -8,9 +8,6 @@ use Rattle.attempt.specs.AsSent.{givenFor}
 use Rattle.client_information.proofs.Given.{given-here, given-next, given-end}
 use Rattle.client_information.proofs.given_for.Statement.{statement}
 use Rattle.client_information.proofs.given_for.Tie as tie
-use Rattle.client_information.proofs.given_for.Reads as reads
-use Rattle.client_information.proofs.given_for.Lts as lts
-use Rattle.client_information.proofs.wide.Reads as wide-reads
 
 abbrev Inv-loop : tie.InvT-loop
 Inv-loop reserved place i₀ i = (i ≤ length reserved) × (givenFor reserved place ≡ givenFor (drop i reserved) place)

@@ -1,6 +1,6 @@
 -- `is_taken` meets its contract. The loop's invariant: the rest of the others answers for the whole.
 use Prim.Native.Nat.{_≤_, _-_}
-use mathlib.Core.Path.{_≡_, refl, sym, _∙_}
+use mathlib.Core.Path.{_≡_, sym, _∙_}
 use native.Mathlib.Omega.{arith}
 use borrow.Author.Needs.{needs}
 use lib.ListN.{length, drop}
@@ -8,8 +8,6 @@ use Rattle.attempt.specs.AsSent.{isTaken}
 use Rattle.client_information.proofs.Given.{taken-number, taken-place, taken-next, taken-end}
 use Rattle.client_information.proofs.is_taken.Statement.{statement}
 use Rattle.client_information.proofs.is_taken.Tie as tie
-use Rattle.client_information.proofs.is_taken.Reads as reads
-use Rattle.client_information.proofs.is_taken.Lts as lts
 
 abbrev Inv-loop : tie.InvT-loop
 Inv-loop others one i₀ i = (i ≤ length others) × (isTaken one others ≡ isTaken one (drop i others))

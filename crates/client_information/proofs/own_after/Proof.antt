@@ -1,12 +1,7 @@
 -- `own_after` meets its contract, by the two cases of an entry.
-use mathlib.Core.Path.{ap, sym}
 use borrow.Author.Needs.{needs}
-use Rattle.lists.specs.Wire.{entryReply}
-use Rattle.client_information.specs.Parts.{nextAfter}
 use Rattle.client_information.proofs.own_after.Statement.{statement}
 use Rattle.client_information.proofs.own_after.Tie as tie
-use Rattle.client_information.proofs.own_after.Reads as reads
-use Rattle.client_information.proofs.own_after.Lts as lts
 
 enum-told : tie.Need-enum-told
 enum-told c = search needs

@@ -2,17 +2,10 @@
 use Prim.Native.Nat.{_-_, _≤_}
 use native.Mathlib.Omega.{arith}
 use borrow.Author.Needs.{needs}
-use denote.Ref.{now}
 use Rattle.attempt.specs.AsSent.{sentCount}
 use Rattle.client_information.proofs.Sending.{Sending, sending-begins, sending-turn, sending-ends}
 use Rattle.client_information.proofs.put_as_sent.Statement.{statement}
 use Rattle.client_information.proofs.put_as_sent.Tie as tie
-use Rattle.client_information.proofs.put_as_sent.Reads as reads
-use Rattle.client_information.proofs.put_as_sent.Lts as lts
-use Rattle.client_information.proofs.given_for.Reads as given-for-reads
-use Rattle.client_information.proofs.own_after.Reads as own-after-reads
-use Rattle.client_information.proofs.sent_at.Reads as sent-at-reads
-use Rattle.lists.proofs.put_list.Reads as put-list-reads
 
 abbrev Inv-loop : tie.InvT-loop
 Inv-loop own reserved buffer₀ entries next₀ place₀ buffer next place =

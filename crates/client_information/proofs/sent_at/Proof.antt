@@ -1,13 +1,10 @@
 -- `sent_at` meets its contract, by the two cases of an entry; past the own list's end 0 is read.
-use mathlib.Core.Path.{ap, sym, _∙_}
 use native.Mathlib.Nat.{add-zero}
 use borrow.Author.Needs.{needs}
 use lib.ListN.{drop-of-length-le}
 use lib.Seq.{getD-drop}
 use Rattle.client_information.proofs.sent_at.Statement.{statement}
 use Rattle.client_information.proofs.sent_at.Tie as tie
-use Rattle.client_information.proofs.sent_at.Reads as reads
-use Rattle.client_information.proofs.sent_at.Lts as lts
 
 enum-known-given : tie.Need-enum-known-given
 enum-known-given c = search needs

@@ -159,7 +159,7 @@ pub(super) fn raw_event(record: &mut Record, event: &Event) -> u32 {
 }
 
 /// One event on the crate's own attempt; the version that it answers, 0 where it has none.
-fn own_event(attempt: &mut Attempt, event: &Event) -> Result<u32, u8> {
+pub(super) fn own_event(attempt: &mut Attempt, event: &Event) -> Result<u32, u8> {
     plain(match event {
         Event::Datagram(datagram) => attempt.datagram(datagram),
         Event::Processed => attempt.packet_processed().map(|()| 0),

@@ -2,8 +2,9 @@
 //! an event does to any record value.
 
 use super::attempts::{check_own_list, raw_event};
-use super::{paired, same, Compared, Lent, FOUND};
-use crate::model::{Event, MAX_ID, MAX_TABLE};
+use super::wire::check_writer;
+use super::{number, paired, placed, same, Compared, Lent, FOUND};
+use crate::model::{self, Event, MAX_ID, MAX_TABLE};
 use crate::raw::{self, Record};
 
 /// The damages of `check_damaged`.
@@ -107,16 +108,29 @@ fn check_no_own_list(record: &Record) -> Result<(), String> {
     Ok(())
 }
 
+/// 255 from the writer of a client's information, with whatever else would be refused, and the lent
+/// places are left as found.
+fn check_no_information(record: &Record) -> Result<(), String> {
+    let five = [(0x1a2a_3a4a, 0); 5];
+    for reserved in [&[][..], &five[..1], &five, &[(12, 700)]] {
+        for room in [0, 4, 1_024] {
+            check_any_information(record, reserved, room)?;
+        }
+    }
+    Ok(())
+}
+
 /// 255 from every call with this record, and all is left as found.
 pub fn check_no_record(record: &Record) -> Result<(), String> {
     for kind in 0..4 {
         check_not_valid(*record, kind)?;
     }
-    check_no_own_list(record)
+    check_no_own_list(record)?;
+    check_no_information(record)
 }
 
-/// A record after a start and some events, then damaged in one field: 255 from an event and from
-/// the own list, and all is left as found.
+/// A record after a start and some events, then damaged in one field: 255 from an event, from the
+/// own list and from the writer of a client's information, and all is left as found.
 pub fn check_damaged(
     table: &[u32],
     pairs: &[(u32, u32)],
@@ -131,6 +145,7 @@ pub fn check_damaged(
     same("is_record", is_record(&record), false)?;
     check_not_valid(record, kind)?;
     check_no_own_list(&record)?;
+    check_no_information(&record)?;
     Ok(255)
 }
 
@@ -181,6 +196,21 @@ pub fn check_any_record(found: &Record, kind: u32, value: u32, bytes: &[u8]) -> 
     }
     check_own_list(&record, &own_list_of(&record))?;
     Ok(answer)
+}
+
+/// The writer of a client's information on any record value whatever: 255 exactly where it has to be,
+/// else the model's answer for the record's attempted version and own list. The record stays.
+pub fn check_any_information(found: &Record, reserved: &[(u32, u32)], room: usize) -> Compared {
+    let model = match is_record(found) {
+        true => model::client_information(found.attempted, &own_list_of(found), reserved, room),
+        false => Err(255),
+    };
+    let (record, given) = (*found, placed(reserved));
+    check_writer(room, &model, &|buffer, count| {
+        raw::write_client_information(&record, &given, buffer, count)
+    })?;
+    same("record", record, *found)?;
+    Ok(number(&model))
 }
 
 /// The own list of any record: the entries whose bits are set in the row of the attempted version's

@@ -7,6 +7,7 @@ mod choices;
 mod damaged;
 mod parameters;
 mod paste;
+mod reserved;
 mod screening;
 mod wire;
 mod words;
@@ -17,11 +18,12 @@ pub use choices::*;
 pub use damaged::*;
 pub use parameters::*;
 pub use paste::Paste;
+pub use reserved::*;
 pub use screening::*;
 pub use wire::*;
 pub use words::*;
 
-use crate::{model, raw, Pair};
+use crate::{model, raw, Pair, Reserved};
 use quic_version::Refusal;
 
 /// What lent places hold before a call. Each call is made once with each.
@@ -104,6 +106,11 @@ fn check_number<T: Lent>(
 
 fn paired(pairs: &[(u32, u32)]) -> Vec<Pair> {
     pairs.iter().map(|pair| Pair::from(*pair)).collect()
+}
+
+fn placed(reserved: &[(u32, u32)]) -> Vec<Reserved> {
+    let one = |&(number, place): &(u32, u32)| Reserved { number, place };
+    reserved.iter().map(one).collect()
 }
 
 /// `QV_UNKNOWN_CALL`.

@@ -117,19 +117,32 @@ pub(super) fn check_own_writer(
     same_bytes("buffer of the crate", &buffer, &left)
 }
 
+/// The crate's own writers. With no reserved number the short one does the same.
 pub fn check_write_version_negotiation(
     received: &[u8],
     offered: &[u32],
+    reserved: &[u32],
     unused_bits: u8,
     room: usize,
 ) -> Compared {
-    let model = model::version_negotiation(received, offered, unused_bits, room);
+    let model = model::version_negotiation(received, offered, reserved, unused_bits, room);
     check_writer(room, &model, &|buffer, count| {
-        raw::write_version_negotiation(received, offered, unused_bits, buffer, count)
+        raw::write_version_negotiation(received, offered, reserved, unused_bits, buffer, count)
     })?;
     check_own_writer(room, &model, &|buffer| {
-        library::write_version_negotiation(received, offered, unused_bits, buffer)
+        library::write_version_negotiation_with_reserved(
+            received,
+            offered,
+            reserved,
+            unused_bits,
+            buffer,
+        )
     })?;
+    if reserved.is_empty() {
+        check_own_writer(room, &model, &|buffer| {
+            library::write_version_negotiation(received, offered, unused_bits, buffer)
+        })?;
+    }
     Ok(number(&model))
 }
 

@@ -11,6 +11,8 @@ mod choices;
 mod hostile;
 mod integers;
 mod parameters;
+mod reserved_in_lists;
+mod reserved_in_packets;
 mod screening;
 mod tables;
 mod wire;
@@ -27,6 +29,8 @@ fn limits() {
     assert_eq!(quic_version::MAX_TABLE, model::MAX_TABLE);
     assert_eq!(quic_version::MAX_PAIRS, model::MAX_PAIRS);
     assert_eq!(quic_version::MAX_BARRED, model::MAX_BARRED);
+    assert_eq!(quic_version::MAX_RESERVED, model::MAX_RESERVED);
+    assert_eq!(quic_version::MAX_PACKET, model::MAX_PACKET);
     assert_eq!(quic_version::MAX_LIST, model::MAX_LIST);
     assert_eq!(quic_version::MAX_ID, model::MAX_ID);
     assert_eq!(quic_version::MAX_DATAGRAM, model::MAX_DATAGRAM);
@@ -57,7 +61,7 @@ fn every_close_code() {
 #[test]
 fn empty_inputs() {
     check_read_header(&[], 0).unwrap();
-    check_write_version_negotiation(&[], &[], 0, 0).unwrap();
+    check_write_version_negotiation(&[], &[], &[], 0, 0).unwrap();
     check_read_information(0, &[]).unwrap();
     check_write_information(1, 1, &[], 0).unwrap();
     check_read_integer(&[]).unwrap();
@@ -87,4 +91,5 @@ fn empty_inputs() {
         },
     ];
     check_events(&[1], &[], &[], 1, &[], &[], &events).unwrap();
+    check_write_client_information(&[1], &[], &[], 1, &[], &[], &[], &[], 0).unwrap();
 }

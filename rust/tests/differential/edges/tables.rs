@@ -25,7 +25,7 @@ fn check_table(table: &[u32]) {
     check_choose_from_word(table, 1 << 63).unwrap();
     check_count_held(table, &[last]).unwrap();
     check_count_held_from_bytes(table, &random::in_fours(&[last])).unwrap();
-    check_write_version_negotiation(&first_flight(), table, 0, MAX_PACKET + 8).unwrap();
+    check_write_version_negotiation(&first_flight(), table, &[], 0, MAX_PACKET + 8).unwrap();
     check_server_choice(table, &sure, &[], &[], last, 0, &[]).unwrap();
     check_server_choice(&sure, table, &[], &[], 100, 1, &information).unwrap();
     check_start(table, &[], &[], last, &[], &[]).unwrap();

@@ -26,7 +26,7 @@ fn every_length_of_a_datagram_cut_short() {
             ] {
                 check_read_header(cut, told).unwrap();
             }
-            check_write_version_negotiation(cut, &[14, 13], 64, MAX_PACKET).unwrap();
+            check_write_version_negotiation(cut, &[14, 13], &[], 64, MAX_PACKET).unwrap();
         }
     }
 }
@@ -47,7 +47,7 @@ fn datagrams_about_the_fewest_that_are_answered() {
             for offered in [&[14, 13][..], &[14, 12], &[14, 14], &[]] {
                 for (bits, room) in [(0, 0), (127, MAX_PACKET), (128, 0), (255, MAX_PACKET)] {
                     let received = &datagram[..*length];
-                    check_write_version_negotiation(received, offered, bits, room).unwrap();
+                    check_write_version_negotiation(received, offered, &[], bits, room).unwrap();
                 }
             }
         }
@@ -63,7 +63,7 @@ fn longest_datagrams() {
             datagram.resize(length, 1);
             check_read_header(&datagram, 0).unwrap();
             check_read_header(&datagram, 255).unwrap();
-            check_write_version_negotiation(&datagram, &[14, 13], 0, MAX_PACKET).unwrap();
+            check_write_version_negotiation(&datagram, &[14, 13], &[], 0, MAX_PACKET).unwrap();
             let events = [Event::Datagram(datagram)];
             check_events(&[14, 0x0101_0101], &[], &[], 14, &[], &[], &events).unwrap();
         }
@@ -77,7 +77,7 @@ fn every_length_of_the_buffer() {
     let offered: Vec<u32> = (100..).take(MAX_TABLE).collect();
     let enough = 7 + 20 + 3 + 4 * MAX_TABLE + 10;
     for room in 0..=enough {
-        check_write_version_negotiation(&received, &offered, 127, room).unwrap();
+        check_write_version_negotiation(&received, &offered, &[], 127, room).unwrap();
         check_write_information(0, 100, &offered, room).unwrap();
         check_write_information(1, 99, &[], room).unwrap();
     }
@@ -85,7 +85,7 @@ fn every_length_of_the_buffer() {
         let (destination, source) = (vec![7; destination], vec![8; source]);
         let received = random::long_packet(0, 12, &destination, &source, &rest);
         for room in 4 * MAX_TABLE..=MAX_PACKET + 10 {
-            check_write_version_negotiation(&received, &offered, 0, room).unwrap();
+            check_write_version_negotiation(&received, &offered, &[], 0, room).unwrap();
         }
     }
 }
@@ -94,7 +94,7 @@ fn every_length_of_the_buffer() {
 fn every_number_of_unused_bits() {
     let received = random::long_packet(0, 12, &[7; 2], &[8], &[9; MIN_ANSWERED_DATAGRAM]);
     for bits in 0..=u8::MAX {
-        check_write_version_negotiation(&received, &[14, 13, 10], bits, 30).unwrap();
+        check_write_version_negotiation(&received, &[14, 13, 10], &[], bits, 30).unwrap();
     }
 }
 

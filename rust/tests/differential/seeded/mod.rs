@@ -24,6 +24,7 @@ mod attempts;
 mod barred;
 mod choices;
 pub mod parameters;
+mod reserved;
 pub mod screening;
 mod wire;
 mod words;
@@ -38,5 +39,6 @@ pub fn one_stream(seen: &mut Seen, seed: u64, stream: usize, rounds: usize) {
         attempts::calls(seen, random, stream);
         barred::calls(seen, random, stream);
         parameters::calls(seen, random, stream);
+        reserved::calls(seen, random, stream);
     }
 }

@@ -19,7 +19,13 @@ pub fn calls(seen: &mut Seen, random: &mut Random, stream: usize) {
         seen,
         stream,
         "qv_write_version_negotiation",
-        check_write_version_negotiation(&c.received[..], &c.offered[..], c.unused_bits, c.room)
+        check_write_version_negotiation(
+            &c.received[..],
+            &c.offered[..],
+            &c.reserved[..],
+            c.unused_bits,
+            c.room
+        )
     );
 
     let (sender, bytes) = random.information_bytes();
