@@ -6,7 +6,7 @@
 #[path = "../src/ffi.rs"]
 mod raw;
 
-use quic_version::{Attempt, Pair};
+use quic_version::{Attempt, Pair, Reserved};
 use raw::Record;
 use std::mem::size_of;
 use std::ops::Range;
@@ -23,7 +23,7 @@ fn interface_version() {
         quic_version::interface_version(),
         quic_version::INTERFACE_VERSION
     );
-    assert_eq!(raw::interface_7(), quic_version::INTERFACE_VERSION);
+    assert_eq!(raw::interface_8(), quic_version::INTERFACE_VERSION);
 }
 
 #[test]
@@ -122,4 +122,23 @@ fn record_of_a_start_that_bars() {
     let barred = [(10, 12), (12, 14), (14, 10)].map(Pair::from);
     assert_eq!(start(&pairs, &barred), start(&pairs[2..], &[]));
     assert_eq!(start(&pairs, &barred).rows[..3], [0b001, 0b010, 0b101]);
+}
+
+/// A reserved number for a list, and its place: two numbers of 32 bits, in this order.
+#[test]
+fn reserved_numbers() {
+    let reserved = Reserved {
+        number: 0x1a2a_3a4a,
+        place: 1,
+    };
+    let start = &reserved as *const Reserved as usize;
+    assert_eq!(&reserved.number as *const u32 as usize - start, 0);
+    assert_eq!(&reserved.place as *const u32 as usize - start, 4);
+    assert_eq!(size_of::<[Reserved; 3]>(), 24);
+    let record = raw::start(&[14, 12], &[], &[], 12, &[], &[]).attempt;
+    let (mut buffer, mut count) = ([0x77; 13], 0);
+    let answer = raw::write_client_information(&record, &[reserved], &mut buffer, &mut count);
+    assert_eq!((answer, count), (0, 12));
+    let sent = [0, 0, 0, 12, 0, 0, 0, 12, 0x1a, 0x2a, 0x3a, 0x4a, 0x77];
+    assert_eq!(buffer, sent);
 }

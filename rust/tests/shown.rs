@@ -1,8 +1,8 @@
 //! What `Debug` and the version constants show: versions in hexadecimal.
 
 use quic_version::{
-    read_header, read_information, versions, Attempt, Decision, End, Pair, Refusal, Sender,
-    VERSION_1, VERSION_2,
+    read_header, read_information, versions, Attempt, Decision, End, Pair, Refusal, Reserved,
+    Sender, WriteRefusal, VERSION_1, VERSION_2,
 };
 
 /// A Version Negotiation packet from ID 05 to ID 51 d1, with version 1 and version 2.
@@ -33,6 +33,19 @@ fn pairs_ends_and_decisions() {
     );
     assert_eq!(format!("{:?}", Decision::Negotiate), "Negotiate");
     assert_eq!(format!("{:?}", Decision::Use(u32::MAX)), "Use(0xffffffff)");
+}
+
+#[test]
+fn reserved_numbers() {
+    let reserved = Reserved {
+        number: 0x0a2a_3a4a,
+        place: 12,
+    };
+    let shown = "Reserved { number: 0x0a2a3a4a, place: 12 }";
+    assert_eq!(format!("{:?}", reserved), shown);
+    assert_eq!(format!("{:?}", [reserved]), format!("[{}]", shown));
+    let refusal = WriteRefusal::BadReservedInList;
+    assert_eq!(format!("{:?}", refusal), "BadReservedInList");
 }
 
 #[test]

@@ -12,8 +12,8 @@ const READING: [u8; 31] = [
 ];
 
 /// The numbers of writers.
-const WRITING: [u8; 21] = [
-    11, 12, 20, 21, 22, 23, 24, 25, 26, 33, 34, 35, 36, 37, 80, 81, 82, 83, 84, 85, 255,
+const WRITING: [u8; 23] = [
+    11, 12, 20, 21, 22, 23, 24, 25, 26, 28, 33, 34, 35, 36, 37, 47, 80, 81, 82, 83, 84, 85, 255,
 ];
 
 /// A number with its name and its words.
@@ -50,8 +50,8 @@ fn numbers_of_each_type() {
     }
 }
 
-/// Every number once, in rising order: document 01's 33, document 02's 20 and 80 to 85, and 255. A
-/// number that both types have has one name and the same words in both.
+/// Every number once, in rising order: document 01's 33, document 02's 20, 28, 47 and 80 to 85, and
+/// 255. A number that both types have has one name and the same words in both.
 fn all() -> Vec<Row> {
     let mut rows = [reading(), writing()].concat();
     rows.sort();
@@ -62,7 +62,7 @@ fn all() -> Vec<Row> {
 #[test]
 fn one_name_and_one_text_for_a_number() {
     let rows = all();
-    assert_eq!(rows.len(), 41);
+    assert_eq!(rows.len(), 43);
     for rows in rows.windows(2) {
         assert!(rows[0].0 < rows[1].0, "{:?}", rows);
     }

@@ -17,7 +17,7 @@ use Rattle.versions.specs.Version.{reserved}
 use Rattle.versions.specs.Words.{entriesWhere}
 use Rattle.versions.proofs.Lists.{table-counts}
 use Rattle.versions.proofs.Members.{elem-where, members-held, length-members}
-use Rattle.versions.proofs.WithoutReserved.{table-not-reserved, without-none}
+use Rattle.versions.proofs.WithoutReserved.{table-not-zero, table-not-reserved, without-none}
 use Rattle.information.specs.Information.{chosenOf, availableOf, formRules}
 use Rattle.information.specs.declared.Presence.the-variants.{Given}
 use Rattle.attempt.specs.Attempt.{tableOf, ownFor, ownOf, ownAsAnswered}
@@ -79,6 +79,9 @@ own-in-table a v e = members-held (wordOf (tableOf a) (a .rows) (a .attempted)) 
 
 pub own-unreserved : (a : Attempt) (v : ℕ) → Reachable a → elem v (ownAsAnswered a) ≡ true → reserved v ≡ false
 own-unreserved a v r e = table-not-reserved (tableOf a) v (attempt-keeps a r) (own-in-table a v e)
+
+pub own-not-zero : (a : Attempt) (v : ℕ) → Reachable a → elem v (ownAsAnswered a) ≡ true → v ≡ 0 → ⊥
+own-not-zero a v r e = table-not-zero (tableOf a) v (attempt-keeps a r) (own-in-table a v e)
 
 -- so it is as it is without its reserved numbers
 pub own-without : (a : Attempt) → Reachable a → withoutReserved (ownAsAnswered a) ≡ ownAsAnswered a

@@ -1,5 +1,5 @@
 -- The list as sent, put into a buffer entry by entry: those that were put, and those from the place on, make up the whole.
-use Prim.Native.Nat.{ℕ, zero, suc, _+_, _*_, _-_, _≤_, _<_}
+use Prim.Native.Nat.{ℕ, suc, _+_, _*_, _-_, _≤_, _<_}
 use mathlib.Core.List.{List, [], _∷_, _++_, append-assoc, append-nil}
 use mathlib.Core.Option.{Option, Option.none, Option.some}
 use mathlib.Core.Path.{_≡_, refl, sym, ap, _∙_}
@@ -13,25 +13,15 @@ use Rattle.lists.proofs.Entries.{length-listBytes, listBytes-append, afterPut-r
 use Rattle.lists.proofs.Places.{partFrom, length-partFrom, putFrom, over, length-put}
 use Rattle.information.specs.Information.{informationBytes}
 use Rattle.attempt.specs.AsSent.{givenFor, sentAt, ownAfter, sentFrom, sentCount, listAsSent}
+use Rattle.attempt.proofs.AsSent.{length-sent}
 use Rattle.client_information.specs.ClientInformation.{sentLength}
 use Rattle.client_information.specs.Parts.{nextAfter}
 
 -- ---- the list
 
--- It has as many entries as were asked for
-length-sentFrom : (count place : ℕ) (own : List ℕ) (given : List (List ℕ)) → length (sentFrom count place own given) ≡ count
-unfolding sentFrom
-length-sentFrom zero place own given = refl
-length-sentFrom (suc count) place own given =
-    ap suc (length-sentFrom count (suc place) (ownAfter (givenFor given place) own) given)
-
-length-as-sent : (own : List ℕ) (given : List (List ℕ)) → length (listAsSent own given) ≡ sentCount own given
-unfolding listAsSent
-length-as-sent own given = length-sentFrom (sentCount own given) 0 own given
-
-pub length-sent-bytes : (own : List ℕ) (given : List (List ℕ)) → length (listBytes (listAsSent own given)) ≡ versionBytes * sentCount own given
-length-sent-bytes own given =
-    length-listBytes (listAsSent own given) ∙ ap (λ (n : ℕ). versionBytes * n) (length-as-sent own given)
+-- Its bytes
+length-sent-bytes : (own : List ℕ) (given : List (List ℕ)) → length (listBytes (listAsSent own given)) ≡ versionBytes * sentCount own given
+length-sent-bytes own given = length-listBytes (listAsSent own given) ∙ ap (λ (n : ℕ). versionBytes * n) (length-sent own given)
 
 -- The own list from the place that is next
 own-next : (o : Option ℕ) (own : List ℕ) (next : ℕ) → ownAfter o (drop next own) ≡ drop (nextAfter o next) own
@@ -69,56 +59,51 @@ pub record Sending (own : List ℕ) (given : List (List ℕ)) (found buffer : Li
   pub behind : next ≤ place
   pub kept : length buffer ≡ length found
 
-module _ (own : List ℕ) (given : List (List ℕ)) (found : List ℕ) where
-  pub sending-begins : Sending own given found found 0 0
-  unfolding listBytes listAsSent
-  sending-begins =
-      record { done = []; counted = refl; begins = refl; whole = rw (sub-zero (sentCount own given)); behind = omega arith; kept = refl }
+-- At the front nothing was put
+pub sending-begins : (own : List ℕ) (given : List (List ℕ)) (found : List ℕ) → Sending own given found found 0 0
+unfolding listBytes listAsSent
+sending-begins own given found =
+    record { done = []; counted = refl; begins = refl; whole = rw (sub-zero (sentCount own given)); behind = omega arith; kept = refl }
 
-  module _
-      (room : versionBytes * sentCount own given ≤ length found)
-      (buffer : List ℕ)
-      (next place : ℕ)
-      (s : Sending own given found buffer next place)
-      where
-    -- What was put has four bytes for each place
-    put-length : length (listBytes (s .done)) ≡ place * versionBytes
-    put-length = let e = s .counted in omega (arith, length-listBytes (s .done))
+module _ {own : List ℕ} {given : List (List ℕ)} {found buffer : List ℕ} {next place : ℕ} (s : Sending own given found buffer next place) where
+  -- What was put has four bytes for each place
+  put-length : length (listBytes (s .done)) ≡ place * versionBytes
+  put-length = let e = s .counted in omega (arith, length-listBytes (s .done))
 
-    -- One entry more
-    pub sending-turn :
-        (o : Option ℕ) (version after : ℕ) (part : List ℕ) → place < sentCount own given →
-        o ≡ givenFor given place → version ≡ sentAt o (drop next own) → after ≡ nextAfter o next →
-        part ≡ afterPut (version ∷ []) (partFrom (place * versionBytes) buffer) →
-        Sending own given found (putFrom (place * versionBytes) buffer part) after (place + 1)
-    unfolding listBytes
-    sending-turn o version after part inside reply v a p =
-        let at = place * versionBytes in
-        let more = s .done ++ (version ∷ []) in
-        let longer : length more ≡ place + 1 = let e = s .counted in omega (arith, length-append (s .done) (version ∷ [])) in
-        let fits : versionBytes ≤ length (partFrom at buffer) = let k = s .kept in omega (arith, length-partFrom at buffer) in
-        let put : putFrom at buffer part ≡ listBytes more ++ drop (length (listBytes more)) found =
-        over (listBytes (s .done)) (listBytes (version ∷ [])) found buffer part at (sym put-length) (s .begins)
-        (p ∙ afterPut-room (version ∷ []) (partFrom at buffer) fits)
-        ∙ ap (λ (l : List ℕ). l ++ drop (length l) found) (sym (listBytes-append (s .done) (version ∷ []))) in
-        let next-one = sent-next (sentCount own given) place next after version own given o inside reply v a in
-        let inner : length (listBytes more) ≤ length found = omega (arith, length-listBytes more) in
-        record {
-          done = more;
-          counted = longer;
-          begins = put;
-          whole = append-assoc (s .done) (version ∷ []) _ ∙ ap (λ (l : List ℕ). s .done ++ l) (sym next-one) ∙ s .whole;
-          behind = rw a (next-behind o next place (s .behind));
-          kept = ap length put ∙ length-put (listBytes more) found inner;
-        }
+  -- One entry more
+  pub sending-turn :
+      {o : Option ℕ} {version after : ℕ} {part : List ℕ} → versionBytes * sentCount own given ≤ length found → place < sentCount own given →
+      o ≡ givenFor given place → version ≡ sentAt o (drop next own) → after ≡ nextAfter o next →
+      part ≡ afterPut (version ∷ []) (partFrom (place * versionBytes) buffer) →
+      Sending own given found (putFrom (place * versionBytes) buffer part) after (place + 1)
+  unfolding listBytes
+  sending-turn {o} {version} {after} {part} room inside reply v a p =
+      let at = place * versionBytes in
+      let more = s .done ++ (version ∷ []) in
+      let longer : length more ≡ place + 1 = let e = s .counted in omega (arith, length-append (s .done) (version ∷ [])) in
+      let fits : versionBytes ≤ length (partFrom at buffer) = let k = s .kept in omega (arith, length-partFrom at buffer) in
+      let put : putFrom at buffer part ≡ listBytes more ++ drop (length (listBytes more)) found =
+      over (listBytes (s .done)) (listBytes (version ∷ [])) found buffer part at (sym put-length) (s .begins)
+      (p ∙ afterPut-room (version ∷ []) (partFrom at buffer) fits)
+      ∙ ap (λ (l : List ℕ). l ++ drop (length l) found) (sym (listBytes-append (s .done) (version ∷ []))) in
+      let next-one = sent-next (sentCount own given) place next after version own given o inside reply v a in
+      let inner : length (listBytes more) ≤ length found = omega (arith, length-listBytes more) in
+      record {
+        done = more;
+        counted = longer;
+        begins = put;
+        whole = append-assoc (s .done) (version ∷ []) _ ∙ ap (λ (l : List ℕ). s .done ++ l) (sym next-one) ∙ s .whole;
+        behind = rw a (next-behind o next place (s .behind));
+        kept = ap length put ∙ length-put (listBytes more) found inner;
+      }
 
-    -- All are put
-    pub sending-ends : sentCount own given ≤ place → buffer ≡ listBytes (listAsSent own given) ++ drop (versionBytes * sentCount own given) found
-    sending-ends h =
-        let no-more = sent-none (sentCount own given) place (drop next own) given h in
-        let all : s .done ≡ listAsSent own given =
-        sym (append-nil (s .done)) ∙ ap (λ (l : List ℕ). s .done ++ l) (sym no-more) ∙ s .whole in
-        s .begins ∙ rw (all, length-sent-bytes own given)
+  -- All are put
+  pub sending-ends : sentCount own given ≤ place → buffer ≡ listBytes (listAsSent own given) ++ drop (versionBytes * sentCount own given) found
+  sending-ends h =
+      let no-more = sent-none (sentCount own given) place (drop next own) given h in
+      let all : s .done ≡ listAsSent own given =
+      sym (append-nil (s .done)) ∙ ap (λ (l : List ℕ). s .done ++ l) (sym no-more) ∙ s .whole in
+      s .begins ∙ rw (all, length-sent-bytes own given)
 
 -- ---- the information
 

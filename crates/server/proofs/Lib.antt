@@ -3,4 +3,5 @@ pub mod Flights
 pub mod Injective
 pub mod Repeated
 pub mod Rising
+pub mod Unseen
 pub mod Worked

@@ -4,7 +4,7 @@ use mathlib.Core.Bool.{Bool, true, false, not, _&&_, _||_, or-true, true≢false
 use mathlib.Core.List.{List, [], _∷_, _++_}
 use mathlib.Core.Path.{_≡_, refl, sym, ap, _∙_}
 use lib.Dec.{eqb}
-use borrow.Author.Tests.{eqb-true, not-true, eq-eqb}
+use borrow.Author.Tests.{eqb-true, eqb-false, not-true, eq-eqb}
 use Rattle.refusals.proofs.Rules.{both-true}
 use Rattle.versions.specs.Reserved.{eachReserved, notReserved, withoutReserved}
 use Rattle.versions.specs.Table.{elem, entriesKeepRule, tableKeepsRule}
@@ -47,21 +47,30 @@ without-none (x ∷ vs) h =
     rw (h x (ap (λ (c : Bool). c || elem x vs) (eq-eqb x x refl)))
     (ap (λ (l : List ℕ). x ∷ l) (without-none vs (λ v e. h v (ap (λ (c : Bool). eqb x v || c) e ∙ or-true (eqb x v)))))
 
--- An entry of a table that keeps its rule is not reserved
-entry-not-reserved : (t : List ℕ) (v : ℕ) → entriesKeepRule t ≡ true → elem v t ≡ true → reserved v ≡ false
-unfolding entriesKeepRule elem usable
-entry-not-reserved [] v h e = absurd (false≢true e)
-entry-not-reserved (x ∷ t) v h e =
+-- An entry of a table that keeps its rule is usable
+entry-usable : (t : List ℕ) (v : ℕ) → entriesKeepRule t ≡ true → elem v t ≡ true → usable v ≡ true
+unfolding entriesKeepRule elem
+entry-usable [] v h e = absurd (false≢true e)
+entry-usable (x ∷ t) v h e =
     let p = both-true (usable x && not (elem x t)) (entriesKeepRule t) h in
-    let u = both-true (not (eqb x 0)) (not (reserved x)) (both-true (usable x) _ (p .0) .0) in
-    go (eqb x v) refl (u .1) (entry-not-reserved t v (p .1)) e
+    go (eqb x v) refl (both-true (usable x) _ (p .0) .0) (entry-usable t v (p .1)) e
   where
-    go : (c : Bool) → eqb x v ≡ c → not (reserved x) ≡ true → (elem v t ≡ true → reserved v ≡ false) → (c || elem v t) ≡ true → reserved v ≡ false
-    go true d u ih e = sym (ap reserved (eqb-true x v d)) ∙ not-true (reserved x) u
+    go : (c : Bool) → eqb x v ≡ c → usable x ≡ true → (elem v t ≡ true → usable v ≡ true) → (c || elem v t) ≡ true → usable v ≡ true
+    go true d u ih e = sym (ap usable (eqb-true x v d)) ∙ u
     go false d u ih e = ih e
 
+-- so it is neither 0 nor reserved
+usable-known : (v : ℕ) → usable v ≡ true → (v ≡ 0 → ⊥) × (reserved v ≡ false)
+unfolding usable
+usable-known v h =
+    let u = both-true (not (eqb v 0)) (not (reserved v)) h in
+    (eqb-false v 0 (not-true (eqb v 0) (u .0)), not-true (reserved v) (u .1))
+
+pub table-not-zero : (t : List ℕ) (v : ℕ) → tableKeepsRule t ≡ true → elem v t ≡ true → v ≡ 0 → ⊥
+table-not-zero t v h e = usable-known v (entry-usable t v (table-entries t h) e) .0
+
 pub table-not-reserved : (t : List ℕ) (v : ℕ) → tableKeepsRule t ≡ true → elem v t ≡ true → reserved v ≡ false
-table-not-reserved t v h e = entry-not-reserved t v (table-entries t h) e
+table-not-reserved t v h e = usable-known v (entry-usable t v (table-entries t h) e) .1
 
 -- so a reserved number is in no table
 pub reserved-not-in-table : (t : List ℕ) (v : ℕ) → tableKeepsRule t ≡ true → reserved v ≡ true → elem v t ≡ false

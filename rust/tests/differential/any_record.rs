@@ -36,6 +36,33 @@ fn no_event_completes_outside_the_table() {
     assert!(rounds < DEFAULT_ROUNDS || enough, "{:?}", seen);
 }
 
+#[test]
+fn information_of_any_record() {
+    let rounds = number_of("QUIC_VERSION_ROUNDS", DEFAULT_ROUNDS as u64) as usize / 2;
+    let mut random = Random::new(!number_of("QUIC_VERSION_SEED", DEFAULT_SEED) ^ 18);
+    let mut seen: BTreeMap<(bool, u32), usize> = BTreeMap::new();
+    for _ in 0..rounds {
+        let record = any_record(&mut random);
+        let (mut versions, mut own) = ([0; MAX_TABLE], 3);
+        raw::own_list(&record, &mut versions, &mut own);
+        let reserved = random.reserved_in_list(own);
+        let room = random.room_with(4 + 4 * own, reserved.len());
+        match check_any_information(&record, &reserved, room) {
+            Ok(number) => *seen.entry((own == 0, number)).or_insert(0) += 1,
+            Err(difference) => panic!(
+                "{}\n{:?}\nreserved {:?}, room {}",
+                difference, record, reserved, room
+            ),
+        }
+    }
+    // Own lists without an entry, which no attempt has, are among them.
+    let all = [(false, 0), (false, 37), (false, 47), (false, 255)];
+    let all = [&all[..], &[(true, 0), (true, 37), (true, 47)]].concat();
+    let often = |answer| matches!(seen.get(answer), Some(count) if *count >= 100);
+    let enough = all.iter().all(often) && seen.len() == all.len();
+    assert!(rounds < DEFAULT_ROUNDS / 2 || enough, "{:?}", seen);
+}
+
 /// The record of a start, or zeroed memory, with up to five fields changed.
 fn any_record(random: &mut Random) -> Record {
     let mut record = Record::default();

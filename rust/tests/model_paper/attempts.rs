@@ -27,7 +27,7 @@ pub fn missing(in_use: u32) -> Event {
     }
 }
 
-fn begin(table: &[u32], pairs: &[(u32, u32)], original: u32) -> Attempt {
+pub fn begin(table: &[u32], pairs: &[(u32, u32)], original: u32) -> Attempt {
     begin_barring(table, pairs, &[], original)
 }
 
@@ -41,7 +41,7 @@ pub fn begin_barring(
 }
 
 /// The attempt of P4 after it acted.
-fn p4() -> Attempt {
+pub fn p4() -> Attempt {
     let mut attempt = begin(&[14, 12, 10], &[], 12);
     assert_eq!(
         attempt.event(&listing(&[10, 13, 14])),
@@ -51,7 +51,7 @@ fn p4() -> Attempt {
 }
 
 /// The attempt of P10 after it acted.
-fn p10() -> Attempt {
+pub fn p10() -> Attempt {
     let mut attempt = begin(&[3, 4, 1, 2], &[(1, 2), (3, 4)], 1);
     assert_eq!(attempt.event(&listing(&[4, 3])), Ok(Effect::Acted(3)));
     assert_eq!(attempt.own_list(), [3, 4]);
@@ -164,7 +164,7 @@ fn slip_compared_with_the_version_in_use() {
 #[test]
 fn slip_ids_not_swapped() {
     let received = long_packet(0, 12, DESTINATION, SOURCE, &[0; MIN_ANSWERED]);
-    let sent = version_negotiation(&received, &[14], 0, usize::MAX).unwrap();
+    let sent = version_negotiation(&received, &[14], &[], 0, usize::MAX).unwrap();
     assert_eq!(sent, packet(SOURCE, DESTINATION, &[14]));
     let mut attempt = begin(&[14, 12], &[], 12);
     let unswapped = Event::Datagram(packet(DESTINATION, SOURCE, &[14]));

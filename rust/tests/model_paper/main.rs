@@ -10,6 +10,7 @@ mod parameters;
 #[path = "../random/mod.rs"]
 mod random;
 mod reach;
+mod reserved;
 mod wire;
 
 use model::close_code;

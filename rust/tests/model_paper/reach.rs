@@ -2,6 +2,7 @@
 
 mod barred;
 mod parameters;
+mod reserved;
 
 use crate::model::*;
 use crate::random::Random;
@@ -37,12 +38,7 @@ fn reach_of_the_calls() {
         let c = random.read_call();
         read.note(&read_header(&c.datagram, c.told));
         let c = random.negotiation_call();
-        write.note(&version_negotiation(
-            &c.received,
-            &c.offered,
-            c.unused_bits,
-            c.room,
-        ));
+        write.note(&c.packet());
         let (table, list) = random.choose_call();
         choice.note(&choose(&table, &list));
         let (sender, bytes) = random.information_bytes();
@@ -62,7 +58,7 @@ fn reach_of_the_calls() {
         starts.note(&c.start());
     }
     read.holds(&[0, 11, 12, 13], 40);
-    write.holds(&[0, 11, 12, 20, 21, 22, 23, 24, 25, 26], 40);
+    write.holds(&[0, 11, 12, 20, 21, 22, 23, 24, 25, 26, 28], 40);
     choice.holds(&[0, 40, 41, 42], 40);
     client_reads.holds(&[0, 31, 32, 33, 34, 35, 36], 20);
     server_reads.holds(&[0, 31, 32, 33, 34, 35], 20);
@@ -80,7 +76,7 @@ fn reach_of_the_fewest_bytes() {
     let (mut under, mut at, mut over) = <(Reach, Reach, Reach)>::default();
     for _ in 0..8_000 {
         let c = random.negotiation_call();
-        let answer = version_negotiation(&c.received, &c.offered, c.unused_bits, c.room);
+        let answer = c.packet();
         if let Ok(packet) = &answer {
             assert!(packet.len() <= c.received.len());
         }
@@ -92,8 +88,8 @@ fn reach_of_the_fewest_bytes() {
         }
     }
     under.holds(&[20], 400);
-    at.holds(&[0, 21, 22, 23, 24, 25, 26], 20);
-    over.holds(&[0, 21, 22, 23, 24, 25, 26], 20);
+    at.holds(&[0, 21, 22, 23, 24, 25, 26, 28], 20);
+    over.holds(&[0, 21, 22, 23, 24, 25, 26, 28], 20);
 }
 
 /// How often each size came up.

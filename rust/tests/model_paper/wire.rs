@@ -23,12 +23,12 @@ fn whole_case_of_22_bytes() {
         0xC0, 0x00, 0x00, 0x00, 0x00, 0x01, 0xCC, 0x02, 0xAA, 0xBB, 0x00, 0x00, 0x00, 0x0E, 0x00,
         0x00, 0x00, 0x0D, 0x00, 0x00, 0x00, 0x0A,
     ];
-    let write = |room| version_negotiation(&padded, &[14, 13, 10], 64, room);
+    let write = |room| version_negotiation(&padded, &[14, 13, 10], &[], 64, room);
     assert_eq!(write(22), Ok(sent.to_vec()));
     assert_eq!(write(1_000), Ok(sent.to_vec()));
     assert_eq!(write(21), Err(26));
     // "Document 01's 11-byte whole case becomes a 20"
-    let small = version_negotiation(&received, &[14, 13, 10], 64, 22);
+    let small = version_negotiation(&received, &[14, 13, 10], &[], 64, 22);
     assert_eq!(small, Err(20));
     assert_eq!(
         read_header(&received, 0),
@@ -140,7 +140,8 @@ fn negotiation_headers() {
 #[test]
 fn packet_writer_refusals() {
     let received = |version| long_packet(0, version, &[1], &[], &[0; 1_192]);
-    let write = |received: &[u8], offered: &[u32]| version_negotiation(received, offered, 128, 0);
+    let write =
+        |received: &[u8], offered: &[u32]| version_negotiation(received, offered, &[], 128, 0);
     assert_eq!(write(&[0; 65_536], &[]), Err(11));
     assert_eq!(write(&[], &[]), Err(12));
     // "12 is then judged for emptiness only"
@@ -153,8 +154,11 @@ fn packet_writer_refusals() {
     assert_eq!(write(&received(2), &[3, 2, 2]), Err(23));
     assert_eq!(write(&received(2), &[3, 2]), Err(24));
     assert_eq!(write(&received(2), &[3]), Err(25));
-    assert_eq!(version_negotiation(&received(2), &[3], 127, 11), Err(26));
-    let sent = version_negotiation(&received(2), &[3], 127, 12).unwrap();
+    assert_eq!(
+        version_negotiation(&received(2), &[3], &[], 127, 11),
+        Err(26)
+    );
+    let sent = version_negotiation(&received(2), &[3], &[], 127, 12).unwrap();
     assert_eq!(sent, [255, 0, 0, 0, 0, 0, 1, 1, 0, 0, 0, 3]);
 }
 
@@ -162,7 +166,7 @@ fn packet_writer_refusals() {
 /// before 21"
 #[test]
 fn small_datagrams() {
-    let write = |received: &[u8]| version_negotiation(received, &[], 128, 0);
+    let write = |received: &[u8]| version_negotiation(received, &[], &[], 128, 0);
     for first in [0, 0x7f] {
         assert_eq!(write(&padded(&[first], 1)), Err(20));
         assert_eq!(write(&padded(&[first], 1_199)), Err(20));
@@ -189,9 +193,10 @@ fn small_datagrams() {
 fn longest_packet() {
     let received = long_packet(0, 99, &[7; 255], &[8; 255], &[0; 683]);
     let offered: Vec<u32> = (1..=MAX_TABLE as u32).collect();
-    assert_eq!(version_negotiation(&received, &offered, 0, 772), Err(26));
-    // Document 02, C-14: "the largest packet sent is 773 bytes".
-    let sent = version_negotiation(&received, &offered, 0, 773).unwrap();
+    let write = |room| version_negotiation(&received, &offered, &[], 0, room);
+    assert_eq!(write(772), Err(26));
+    // Document 02, C-14: "the largest packet sent is 773 bytes", before C-18.
+    let sent = write(773).unwrap();
     assert_eq!(sent, packet(&[8; 255], &[7; 255], &offered));
     assert_eq!(sent.len(), 773);
 }

@@ -6,7 +6,7 @@ use super::choices::ServerCall;
 use super::versions::is_plain;
 use super::wire::NegotiationCall;
 use super::{information, long_packet, Random};
-use crate::model::{Attempt, Event, MAX_RESERVED, MAX_TABLE, MIN_ANSWERED};
+use crate::model::{is_reserved, Attempt, Event, MAX_RESERVED, MAX_TABLE, MIN_ANSWERED};
 
 /// Numbers of reserved numbers that are too many, about the borders of shorter counts too.
 const TOO_MANY: [usize; 14] = [5, 5, 5, 5, 5, 5, 5, 6, 6, 7, 8, 64, 256, 260];
@@ -24,6 +24,11 @@ impl ClientCall {
     /// The model's attempt after the events.
     pub fn attempt(&self) -> Attempt {
         after(&self.start, &self.events)
+    }
+
+    /// The model's answer.
+    pub fn information(&self) -> Result<Vec<u8>, u8> {
+        self.attempt().information(&self.reserved, self.room)
     }
 }
 
@@ -159,7 +164,7 @@ impl Random {
 impl Random {
     /// A buffer length about a need that counts `given` numbers: now and then about one that counts
     /// none of them, or four at the most.
-    pub(super) fn room_with(&mut self, without: usize, given: usize) -> usize {
+    pub fn room_with(&mut self, without: usize, given: usize) -> usize {
         let counted = match self.below(8) {
             0 => 0,
             1 => given.min(MAX_RESERVED),
@@ -284,12 +289,12 @@ impl Random {
 
     /// An outcome whose Chosen Version is reserved, one of `sent` often.
     pub fn reserved_outcome(&mut self, attempt: &Attempt, sent: &[(u32, u32)]) -> Event {
-        let other = self.reserved();
-        let number = match sent {
-            [] => other,
-            _ if self.one_in(3) => other,
-            _ => self.pick(sent).0,
-        };
+        let mut numbers: Vec<u32> = sent.iter().map(|(number, _)| *number).collect();
+        numbers.retain(|v| is_reserved(*v));
+        if numbers.is_empty() || self.one_in(3) {
+            numbers = vec![self.reserved()];
+        }
+        let number = *self.pick(&numbers);
         let mut available = self.list(&attempt.table);
         available.retain(|v| *v != 0);
         if self.one_in(2) {

@@ -1,7 +1,7 @@
 //! Datagrams and Version Information, and whole calls of their readers and writers.
 
 use super::{in_fours, information, long_packet, Random};
-use crate::model::{Sender, MIN_ANSWERED};
+use crate::model::{self, Sender, MIN_ANSWERED};
 
 /// The longest datagram and the first that is too long.
 const DATAGRAM_EDGE: [usize; 3] = [65_535, 65_535, 65_536];
@@ -37,6 +37,19 @@ pub struct NegotiationCall {
     pub reserved: Vec<u32>,
     pub unused_bits: u8,
     pub room: usize,
+}
+
+impl NegotiationCall {
+    /// The model's answer.
+    pub fn packet(&self) -> Result<Vec<u8>, u8> {
+        model::version_negotiation(
+            &self.received,
+            &self.offered,
+            &self.reserved,
+            self.unused_bits,
+            self.room,
+        )
+    }
 }
 
 /// Inputs of the writer of Version Information.

@@ -31,7 +31,10 @@ turn2 c = turn (c .before .before)
 abbrev turn3 : tie.After-is-taken Inv-loop μ-loop → tie.In-loop Inv-loop μ-loop
 turn3 c = turn2 (c .before .before .before)
 
--- Those that are given, and the one at the loop's place
+-- The count of the list's entries, those that are given, and the one at the loop's place
+abbrev entries : tie.In-loop Inv-loop μ-loop → ℕ
+entries at = at .before .before .before .args .entries
+
 abbrev given : tie.In-loop Inv-loop μ-loop → List (List ℕ)
 given at = at .before .before .before .args .reserved .now
 
@@ -43,10 +46,7 @@ is-one : (c : tie.Else2 Inv-loop μ-loop) → reserved (numberIn (here (turn (c 
 is-one c = sym (c .before .is-reserved .ensures) ∙ not-false _ (c .if2 .left)
 
 -- Its place is in the list
-inside :
-    (c : tie.Else3 Inv-loop μ-loop) →
-    let at = turn2 (c .before) in
-    placeIn (here at) < at .before .before .before .args .entries
+inside : (c : tie.Else3 Inv-loop μ-loop) → let at = turn2 (c .before) in placeIn (here at) < entries at
 inside c = let e = c .before .wide .ensures in omega arith
 
 -- Whether another has its number or its place, as `is_taken` answers
@@ -97,7 +97,7 @@ wide-requires c κs = search needs
 returns-3 : tie.Need-returns-3 Inv-loop μ-loop
 returns-3 c =
     let at = turn2 (c .before) in
-    let past : at .before .before .before .args .entries ≤ placeIn (here at) = let e = c .before .wide .ensures in omega arith in
+    let past : entries at ≤ placeIn (here at) = let e = c .before .wide .ensures in omega arith in
     sym (at .before .loop .inv .1 ∙ keeps-past-end _ _ _ (at .loop-test .taken) (is-one (c .before .before)) past)
 
 mul-is-taken : tie.Need-mul-is-taken Inv-loop μ-loop
@@ -130,11 +130,10 @@ loop-again : tie.Need-loop-again Inv-loop μ-loop
 loop-again c =
     let at = turn3 (c .before) in
     let in-list = c .before .before .before in
-    (
-      omega arith,
-      at .before .loop .inv .1 ∙
-      keeps-next _ _ _ (at .loop-test .taken) (is-one (in-list .before .before)) (inside in-list) (later (c .before) ∙ c .if4 .left),
-    )
+    let next =
+    keeps-next (entries at) (given at) (at .before .loop .i) (at .loop-test .taken) (is-one (in-list .before .before)) (inside in-list)
+    (later (c .before) ∙ c .if4 .left) in
+    (omega arith, at .before .loop .inv .1 ∙ next)
 
 returns-5 : tie.Need-returns-5 Inv-loop μ-loop
 returns-5 c = sym (c .before .loop .inv .1 ∙ keeps-end _ _ _ (c .loop-test .left))

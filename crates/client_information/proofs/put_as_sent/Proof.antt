@@ -73,20 +73,16 @@ loop-less c = omega arith
 loop-again : tie.Need-loop-again Inv-loop μ-loop
 loop-again c =
     let at = at-loop c in
-    (
-      omega arith,
-      sending-turn _ _ _ (entry at .pre) _ _ _ (at .loop .inv .1) _ _ _ _ (asking c .before .loop-test .taken)
-      (asking c .given-for .ensures)
-      (sending c .sent-at .ensures)
-      (c .own-after .ensures)
-      (putting c .put-list .ensures .1),
-    )
+    let more =
+    sending-turn (at .loop .inv .1) (entry at .pre) (asking c .before .loop-test .taken) (asking c .given-for .ensures) (sending c .sent-at .ensures)
+    (c .own-after .ensures) (putting c .put-list .ensures .1) in
+    (omega arith, more)
 
 same-length : tie.Need-same-length Inv-loop μ-loop
 same-length c = c .before .loop .inv .1 .kept
 
 returns : tie.Need-returns Inv-loop μ-loop
-returns c = sending-ends _ _ _ (entry (c .before) .pre) _ _ _ (c .before .loop .inv .1) (c .loop-test .left)
+returns c = sending-ends (c .before .loop .inv .1) (c .loop-test .left)
 
 pub put-as-sent-spec : {M : Type 1} → statement M
 put-as-sent-spec =
