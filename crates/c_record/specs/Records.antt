@@ -5,6 +5,8 @@ use mathlib.Core.List.{List, []}
 use mathlib.Core.Option.{Option, Option.none, Option.some}
 use lib.Dec.{eqb, leb}
 use lib.ListN.{replicate}
+use Rattle.refusals.specs.Reply.{Reply, refuse}
+use Rattle.refusals.specs.declared.Call.the-variants.{Writing}
 use Rattle.versions.specs.Limits.{maxTable}
 use Rattle.information.specs.declared.Presence.the-variants.{Missing, Given}
 use Rattle.attempt.specs.Attempt.{ownOf}
@@ -16,6 +18,7 @@ use Rattle.attempt.specs.declared.End.{End}
 use Rattle.attempt.specs.declared.End.the-variants.{Open, Completed, Closed}
 use Rattle.attempt.specs.declared.Event.{Event}
 use Rattle.attempt.specs.declared.Event.the-variants.{Datagram, PacketProcessed, Outcome}
+use Rattle.client_information.specs.ClientInformation.{clientInformation}
 use Rattle.c_record.specs.Numbers.{flag, notValid, refusalOf}
 use Rattle.c_record.specs.declared.Record.{Record}
 use Rattle.c_record.specs.declared.RecordAndRefusal.{RecordAndRefusal}
@@ -141,3 +144,8 @@ shownLeft s = record { left = s .attempt; refusal = s .refusal }
 -- The own list of its attempt; the empty list for a record that could not be an attempt's
 unfoldable pub ownRecord : Record → List ℕ
 ownRecord r = cond (isRecord r) (ownOf (attemptOf r)) []
+
+-- The Version Information that its attempt sends; 255 for a record that could not be an attempt's
+unfoldable pub recordInformation : Record → List (List ℕ) → ℕ → Reply (List ℕ)
+recordInformation r given room =
+    cond (isRecord r) (clientInformation (attemptOf r) given room) (refuse Writing notValid)

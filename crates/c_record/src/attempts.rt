@@ -1,20 +1,24 @@
-// The start of an attempt, and its own list, over the record without enums.
+// The start of an attempt, its own list and its Version Information, over the record without enums.
 ghost use mathlib.Core.Bool.{false};
 ghost use mathlib.Core.Path.{_≡_};
 ghost use lib.ListN.{length};
+ghost use Rattle.refusals.specs.Written.{writtenReply, counted, leaves};
 ghost use Rattle.attempt.specs.Attempt.{over};
 ghost use Rattle.attempt.specs.Start.{inputOf, startReply};
 ghost use Rattle.c_record.specs.Numbers.{refusalOf};
-ghost use Rattle.c_record.specs.Records.{isRecord, startRecord, ownRecord, shownLeft};
+ghost use Rattle.c_record.specs.Records.{isRecord, startRecord, ownRecord, recordInformation, shownLeft};
 use crate::OwnCount;
 use crate::Record;
 use crate::RecordAndRefusal;
 use crate::coding::counts_fit;
 use crate::coding::encode;
 use crate::coding::marks_fit;
+use attempt::NOT_A_RECORD;
 use attempt::StartAnswer;
 use attempt::own::put_members;
+use client_information::write_as_sent;
 use client_start::start;
+use refusals::Written;
 use versions::MAX_TABLE;
 use versions::table::place_of;
 
@@ -71,6 +75,26 @@ pub fn put_own(held: Record, versions: &mut [u32; MAX_TABLE]) -> OwnCount
     let rows = held.rows;
     let count = put_members(&table[..length], rows[place], versions);
     OwnCount { known: true, count }
+}
+
+// Writes the client's Version Information of a record's attempt, with reserved numbers, each with its place in the list as
+// sent, and answers the byte count. Refusals, in order, each of which leaves the buffer as found: 255 for a record that
+// could not be an attempt's, 37, 47. Bytes of the buffer past the count keep their values.
+pub fn write_record_information(
+    held: Record,
+    reserved: &[[u32; 2]],
+    buffer: &mut [u8],
+) -> Written
+    ensures answer { λ r. ⌜ writtenReply r ≡ counted (recordInformation held (now (reserved .entry)) (length (now (buffer .entry)))) ⌝ }
+    ensures left { λ _. ⌜ now (buffer .exit) ≡ leaves (recordInformation held (now (reserved .entry)) (length (now (buffer .entry)))) (now (buffer .entry)) ⌝ }
+{
+    let mut versions = [0u32; MAX_TABLE];
+    let own = put_own(held, &mut versions);
+    if !own.known {
+        return Written::Refused(NOT_A_RECORD);
+    }
+    let count = own.count;
+    write_as_sent(held.attempted, &versions[..count], reserved, buffer)
 }
 
 // The answer for a record that could not be an attempt's.

@@ -30,10 +30,7 @@ const ANSWERS: [(&str, &[u32]); 30] = [
         &[0, 37, 41, 43, 47, 51],
     ),
     ("qv_event, reserved Chosen", &[62, 72]),
-    (
-        "qv_event, reserved numbers listed",
-        &[0, 23, 62, 63, 64, 65],
-    ),
+    ("qv_event, reserved numbers listed", &[0, 62, 63, 64, 65]),
     ("qv_choose", &[0, 40, 41, 42]),
     ("qv_choose_from_bytes", &[0, 40, 41, 42]),
     ("qv_list_word", &[0, 40, 41]),

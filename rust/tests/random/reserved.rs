@@ -6,7 +6,8 @@ use super::choices::ServerCall;
 use super::versions::is_plain;
 use super::wire::NegotiationCall;
 use super::{information, long_packet, Random};
-use crate::model::{is_reserved, Attempt, Event, MAX_RESERVED, MAX_TABLE, MIN_ANSWERED};
+use crate::model::{is_reserved, Attempt, Event};
+use crate::model::{MAX_PACKET, MAX_RESERVED, MAX_TABLE, MIN_ANSWERED};
 
 /// Numbers of reserved numbers that are too many, about the borders of shorter counts too.
 const TOO_MANY: [usize; 14] = [5, 5, 5, 5, 5, 5, 5, 6, 6, 7, 8, 64, 256, 260];
@@ -264,27 +265,35 @@ impl Random {
         c
     }
 
-    /// A datagram of the attempt's first flight that may be answered, mostly with its IDs, and what
+    /// A datagram that may be answered, mostly of the attempt's first flight and with its IDs, and what
     /// the server puts into the packet.
     pub fn answer_to(&mut self, attempt: &Attempt) -> NegotiationCall {
-        let mut c = self.reserved_packet_call();
-        let (mut destination, mut source) = (attempt.destination.clone(), attempt.source.clone());
+        let (mut destination, source) = (attempt.destination.clone(), attempt.source.clone());
         if self.one_in(8) {
-            std::mem::swap(&mut destination, &mut source);
+            destination = self.connection_id(20);
         }
-        let version = attempt.attempted;
-        c.offered = self.list(&attempt.table);
-        c.offered.push(self.plain_version());
-        c.offered.retain(|v| *v != version && is_plain(*v));
-        c.offered.sort_unstable();
-        c.offered.dedup();
-        self.shuffle(&mut c.offered);
-        c.offered.truncate(MAX_TABLE);
+        let version = match self.below(4) {
+            0 => self.plain_version(),
+            _ => attempt.attempted,
+        };
+        let mut offered = self.list(&attempt.table);
+        offered.retain(|v| *v != version && is_plain(*v));
+        offered.sort_unstable();
+        offered.dedup();
+        if offered.is_empty() {
+            offered.push(self.plain_version_outside(&[version]));
+        }
+        self.shuffle(&mut offered);
+        offered.truncate(MAX_TABLE);
         let count = self.below(MAX_RESERVED + 1);
-        c.reserved = self.distinct_reserved(count, version);
         let rest = vec![9; MIN_ANSWERED];
-        c.received = long_packet(0, version, &destination, &source, &rest);
-        c
+        NegotiationCall {
+            received: long_packet(0, version, &destination, &source, &rest),
+            offered,
+            reserved: self.distinct_reserved(count, version),
+            unused_bits: self.below(128) as u8,
+            room: MAX_PACKET,
+        }
     }
 
     /// An outcome whose Chosen Version is reserved, one of `sent` often.

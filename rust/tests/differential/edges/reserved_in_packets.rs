@@ -159,8 +159,7 @@ fn many_numbers_that_may_not_be_sent() {
 /// The lists that are lent lie between others: an entry before one, or after it, counts for nothing.
 #[test]
 fn packet_lists_between_others() {
-    let numbers = reserved(12);
-    let offered = versions(12);
+    let (numbers, offered) = (reserved(12), versions(13));
     for from in 0..=8 {
         for count in 0..=MAX_RESERVED {
             let (given, table) = (&numbers[from..from + count], &offered[from..=from + count]);

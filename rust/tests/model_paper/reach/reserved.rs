@@ -187,6 +187,7 @@ fn reach_of_what_takes_no_notice() {
             often.note("nothing in common", answer == Err(65));
             often.note("lists the Original", answer == Err(64));
             often.note("too late", answer == Err(62));
+            often.note("another connection", answer == Err(63));
         }
         let outcome = random.reserved_outcome(&attempt, &c.reserved);
         let answer = attempt.clone().event(&outcome);
