@@ -525,8 +525,8 @@ static void accepted_through_a_pair_but_not_offered(void)
     EXPECT(qv_server_choice(one, 1, accepted, 2, pairs, 1, NULL, 0, 14, QV_MISSING, NULL, 0,
                             &decision) == QV_OK);
     EXPECT(decision == QV_NEGOTIATE);
-    EXPECT(qv_write_version_negotiation(first, count, one, 1, 64, answer, sizeof answer, &count) ==
-           QV_OK);
+    EXPECT(qv_write_version_negotiation(first, count, one, 1, NULL, 0, 64, answer, sizeof answer,
+                                        &count) == QV_OK);
     client_datagram(&started.attempt, answer, count);
     EXPECT(was_asked("keep flight ") && asked_version == VERSION_1);
     EXPECT(find_information(sent, sent_len, &information) == QV_OK);

@@ -1,6 +1,7 @@
 /*
  * A client and a server walk-through of quic_version.h, both with flights that do not convert to
- * every version, lists as words, transport parameters, the record's layout, and NULL with length 0.
+ * every version and with reserved numbers, lists as words, transport parameters, the record's
+ * layout, and NULL with length 0.
  * After `scripts/install PREFIX`, with PREFIX/lib/pkgconfig in PKG_CONFIG_PATH:
  *
  *     gcc -std=c99 example.c $(pkg-config --cflags --libs quic-version) -o example
@@ -34,6 +35,9 @@ ASSERT_LAYOUT(unused_last, sizeof(struct qv_attempt) == PAST(unused));
 ASSERT_LAYOUT(refusal_follows, offsetof(struct qv_started, refusal) == sizeof(struct qv_attempt));
 ASSERT_LAYOUT(started_size, sizeof(struct qv_started) == sizeof(struct qv_attempt) + 8);
 ASSERT_LAYOUT(pair_size, sizeof(struct qv_pair) == 8);
+ASSERT_LAYOUT(number_first, offsetof(struct qv_reserved, number) == 0);
+ASSERT_LAYOUT(place_follows, offsetof(struct qv_reserved, place) == 4);
+ASSERT_LAYOUT(reserved_size, sizeof(struct qv_reserved) == 8);
 ASSERT_LAYOUT(size_t_size, sizeof(size_t) == 8);
 
 #define EXPECT(condition) expect((condition), #condition, __LINE__)
@@ -53,7 +57,7 @@ static void layout(void)
     size_t i;
 
     EXPECT(qv_interface_version() == QV_INTERFACE_VERSION);
-    EXPECT(qv_interface_7() == QV_INTERFACE_VERSION);
+    EXPECT(qv_interface_8() == QV_INTERFACE_VERSION);
     EXPECT(qv_record_size() == sizeof(struct qv_attempt));
     for (i = 0; i < QV_MAX_TABLE; i++) {
         EXPECT(record.rows[i] == UINT64_C(0x1112131415161718));
@@ -79,13 +83,17 @@ static void layout(void)
 static const uint8_t first_flight[QV_MIN_ANSWERED_DATAGRAM] = {0xc0, 0,    0, 0,    12,   2,
                                                                0xaa, 0xbb, 1, 0xcc, 0xff};
 
-/* The server: a first flight in, a Version Negotiation packet out. Returns its count of bytes. */
+/*
+ * The server: a first flight in, a Version Negotiation packet out, which ends with a reserved
+ * number that every client has to ignore. Returns its count of bytes.
+ */
 static size_t server(uint8_t packet[QV_MAX_PACKET])
 {
     static const uint32_t readable[] = {14, 13, 10};
     static const uint32_t accepted[] = {14, 13, 10};
-    static const uint8_t expected[] = {0xc0, 0, 0, 0,  0, 1, 0xcc, 2, 0xaa, 0xbb, 0,
-                                       0,    0, 14, 0, 0, 0, 13,   0, 0,    0,    10};
+    static const uint32_t reserved[] = {0x1a2a3a4au};
+    static const uint8_t expected[] = {0xc0, 0, 0, 0, 0,  1, 0xcc, 2, 0xaa, 0xbb, 0,    0,    0,
+                                       14,   0, 0, 0, 13, 0, 0,    0, 10,   0x1a, 0x2a, 0x3a, 0x4a};
     uint32_t form = 0, version = 0, decision = 0;
     size_t places[QV_PLACES], count = 0;
 
@@ -103,19 +111,67 @@ static size_t server(uint8_t packet[QV_MAX_PACKET])
 
     /* Fewer bytes get no answer, and leave all as found. So does a buffer that is too short. */
     memset(packet, 0x77, QV_MAX_PACKET);
-    EXPECT(qv_write_version_negotiation(first_flight, 11, accepted, 3, 64, packet, QV_MAX_PACKET,
-                                        &count) == QV_DATAGRAM_TOO_SMALL);
+    EXPECT(qv_write_version_negotiation(first_flight, 11, accepted, 3, reserved, 1, 64, packet,
+                                        QV_MAX_PACKET, &count) == QV_DATAGRAM_TOO_SMALL);
     EXPECT(packet[0] == 0x77 && count == 0);
-    EXPECT(qv_write_version_negotiation(first_flight, sizeof first_flight, accepted, 3, 64, packet,
-                                        sizeof expected - 1, &count) == QV_NO_ROOM_FOR_PACKET);
+    EXPECT(qv_write_version_negotiation(first_flight, sizeof first_flight, accepted, 3, reserved, 1,
+                                        64, packet, sizeof expected - 1,
+                                        &count) == QV_NO_ROOM_FOR_PACKET);
     EXPECT(packet[0] == 0x77 && count == 0);
 
-    EXPECT(qv_write_version_negotiation(first_flight, sizeof first_flight, accepted, 3, 64, packet,
-                                        QV_MAX_PACKET, &count) == QV_OK);
+    /* Without a reserved number: the same, but for the last four bytes. */
+    EXPECT(qv_write_version_negotiation(first_flight, sizeof first_flight, accepted, 3, NULL, 0, 64,
+                                        packet, QV_MAX_PACKET, &count) == QV_OK);
+    EXPECT(count == sizeof expected - 4 && memcmp(packet, expected, count) == 0);
+    EXPECT(packet[count] == 0x77);
+
+    EXPECT(qv_write_version_negotiation(first_flight, sizeof first_flight, accepted, 3, reserved, 1,
+                                        64, packet, QV_MAX_PACKET, &count) == QV_OK);
     EXPECT(count == sizeof expected && memcmp(packet, expected, count) == 0);
     EXPECT(count <= sizeof first_flight);
     EXPECT(packet[count] == 0x77);
     return count;
+}
+
+/* Reserved numbers that no packet ends with: 28, after 26, and all is left as found. */
+static void bad_reserved_in_packet(void)
+{
+    static const uint32_t offered[] = {14, 13};
+    static const struct {
+        uint32_t reserved[QV_MAX_RESERVED + 1];
+        size_t reserved_len;
+    } bad[] = {
+        {{0x0a0a0a0bu}, 1},                                                     /* not reserved */
+        {{0x1a2a3a4au, 0x0a0a0a0au, 0x1a2a3a4au}, 3},                           /* repeated */
+        {{0x0a0a0a0au, 0x5a5a5a5au}, 2},                                        /* received */
+        {{0x0a0a0a0au, 0x1a1a1a1au, 0x2a2a2a2au, 0x3a3a3a3au, 0x4a4a4a4au}, 5}, /* too many */
+    };
+    uint8_t received[sizeof first_flight], packet[QV_MAX_PACKET];
+    size_t i, need, count = 7;
+
+    /* A first flight in a reserved version, 0x5a5a5a5a. */
+    memcpy(received, first_flight, sizeof received);
+    memset(received + 1, 0x5a, 4);
+    memset(packet, 0x77, sizeof packet);
+    for (i = 0; i < sizeof bad / sizeof bad[0]; i++) {
+        need = 10 + 4 * (2 + bad[i].reserved_len);
+        EXPECT(qv_write_version_negotiation(received, sizeof received, offered, 2, bad[i].reserved,
+                                            bad[i].reserved_len, 64, packet, need - 1,
+                                            &count) == QV_NO_ROOM_FOR_PACKET);
+        EXPECT(qv_write_version_negotiation(received, sizeof received, offered, 2, bad[i].reserved,
+                                            bad[i].reserved_len, 64, packet, need,
+                                            &count) == QV_BAD_RESERVED_IN_PACKET);
+        EXPECT(count == 7 && packet[0] == 0x77 && packet[need - 1] == 0x77);
+    }
+    EXPECT(qv_close_code(QV_BAD_RESERVED_IN_PACKET, QV_CALL_WRITING) == QV_CLOSE_NONE);
+
+    /* That version is answered, with other numbers or none. */
+    EXPECT(qv_write_version_negotiation(received, sizeof received, offered, 2, bad[0].reserved, 0,
+                                        64, packet, sizeof packet, &count) == QV_OK);
+    EXPECT(qv_write_version_negotiation(received, sizeof received, offered, 2, bad[3].reserved,
+                                        QV_MAX_RESERVED, 64, packet, sizeof packet,
+                                        &count) == QV_OK);
+    EXPECT(count == 10 + 4 * (2 + QV_MAX_RESERVED));
 }
 
 /* The server's choice after a first flight that it can read: 3, which is compatible with 4. */
@@ -218,11 +274,13 @@ static struct qv_attempt start(void)
     return started.attempt;
 }
 
-/* The client, to its end. The packet is the server's: it lists 14, 13 and 10. */
+/* The client, to its end. The packet is the server's: it lists 14, 13, 10 and a reserved number. */
 static void client(const uint8_t *packet, size_t packet_len)
 {
     /* What the handshake authenticated: Chosen 14, Available 13 and 14. */
     static const uint8_t authenticated[] = {0, 0, 0, 14, 0, 0, 0, 13, 0, 0, 0, 14};
+    /* At the front of the list as it is sent. */
+    static const struct qv_reserved reserved[] = {{0x2a3a4a5au, 0}};
     struct qv_attempt attempt = start();
     uint32_t own[QV_MAX_TABLE] = {7, 7}, chosen = 0, version = 0;
     uint8_t information[QV_MAX_INFORMATION];
@@ -241,10 +299,16 @@ static void client(const uint8_t *packet, size_t packet_len)
     EXPECT(qv_write_information(QV_CLIENT, attempt.attempted, own, own_count, information,
                                 sizeof information, &count) == QV_OK);
     EXPECT(count == 8 && information[3] == 14 && information[7] == 14);
+
+    /* Written from the record, with a reserved number that every server has to ignore. */
+    EXPECT(qv_write_client_information(&attempt, reserved, 1, information, sizeof information,
+                                       &count) == QV_OK);
+    EXPECT(count == 12 && information[3] == 14 && information[4] == 0x2a && information[11] == 14);
     EXPECT(qv_read_information(QV_CLIENT, information, count, &chosen, &from, &to) == QV_OK);
-    EXPECT(chosen == 14 && from == 4 && to == 8);
-    EXPECT(qv_entry(information + from, to - from, 0, &version) == 1 && version == 14);
-    EXPECT(qv_entry(information + from, to - from, 1, &version) == 0 && version == 14);
+    EXPECT(chosen == 14 && from == 4 && to == 12);
+    EXPECT(qv_entry(information + from, to - from, 0, &version) == 1 && version == 0x2a3a4a5au);
+    EXPECT(qv_entry(information + from, to - from, 1, &version) == 1 && version == 14);
+    EXPECT(qv_entry(information + from, to - from, 2, &version) == 0 && version == 14);
 
     /* A genuine packet came; a second Version Negotiation packet is too late. */
     EXPECT(qv_packet_processed(&attempt) == QV_OK && attempt.heard == 1);
@@ -282,9 +346,10 @@ static void null_with_length_0(void)
     EXPECT(qv_are_pairs(NULL, 0) == 1);
     EXPECT(qv_read_header(NULL, 0, 0, &form, &version, places) == QV_TRUNCATED);
     EXPECT(form == 7 && version == 7 && places[QV_REST_END] == 7);
-    EXPECT(qv_write_version_negotiation(NULL, 0, NULL, 0, 0, NULL, 0, &count) == QV_TRUNCATED);
-    EXPECT(qv_write_version_negotiation(first_flight, sizeof first_flight, one, 1, 0, NULL, 0,
-                                        &count) == QV_NO_ROOM_FOR_PACKET);
+    EXPECT(qv_write_version_negotiation(NULL, 0, NULL, 0, NULL, 0, 0, NULL, 0, &count) ==
+           QV_TRUNCATED);
+    EXPECT(qv_write_version_negotiation(first_flight, sizeof first_flight, one, 1, NULL, 0, 0, NULL,
+                                        0, &count) == QV_NO_ROOM_FOR_PACKET);
     EXPECT(qv_read_information(QV_SERVER, NULL, 0, &chosen, &from, &to) ==
            QV_INFORMATION_TOO_SHORT);
     EXPECT(qv_write_information(QV_SERVER, 1, NULL, 0, NULL, 0, &count) ==
@@ -301,6 +366,9 @@ static void null_with_length_0(void)
     /* Empty connection IDs. */
     started = qv_start(one, 1, NULL, 0, NULL, 0, 1, NULL, 0, NULL, 0);
     EXPECT(started.refusal == QV_OK);
+    EXPECT(qv_write_client_information(&started.attempt, NULL, 0, NULL, 0, &count) ==
+           QV_NO_ROOM_FOR_INFORMATION);
+    EXPECT(count == 7);
     EXPECT(qv_datagram(&started.attempt, NULL, 0) == QV_NOT_VERSION_NEGOTIATION);
     EXPECT(qv_outcome_without_information(&started.attempt, 1) == QV_OK);
     EXPECT(started.attempt.end_mark == QV_COMPLETED && started.attempt.end_value == 1);
@@ -360,6 +428,7 @@ static void no_attempt(struct qv_attempt attempt)
     static const uint8_t information[] = {0, 0, 0, 1, 0, 0, 0, 1};
     const struct qv_attempt found = attempt;
     uint32_t own[QV_MAX_TABLE] = {7};
+    uint8_t buffer[8] = {7};
     size_t count = 7;
 
     EXPECT(qv_datagram(&attempt, first_flight, sizeof first_flight) == QV_NOT_VALID);
@@ -367,6 +436,10 @@ static void no_attempt(struct qv_attempt attempt)
     EXPECT(qv_outcome(&attempt, 1, information, sizeof information) == QV_NOT_VALID);
     EXPECT(qv_outcome_without_information(&attempt, 0) == QV_NOT_VALID);
     EXPECT(qv_own_list(&attempt, own, &count) == QV_NOT_VALID && own[0] == 7 && count == 7);
+    EXPECT(qv_write_client_information(&attempt, NULL, 0, buffer, sizeof buffer, &count) ==
+           QV_NOT_VALID);
+    EXPECT(qv_write_client_information(&attempt, NULL, 0, NULL, 0, &count) == QV_NOT_VALID);
+    EXPECT(buffer[0] == 7 && count == 7);
     EXPECT(memcmp(&attempt, &found, sizeof attempt) == 0);
 }
 
@@ -434,6 +507,82 @@ static void client_barring(void)
     EXPECT(qv_close_code(QV_CHOSEN_NOT_OURS, QV_CALL_READING) == QV_VERSION_NEGOTIATION_ERROR);
 }
 
+/* The list as sent is these versions, for these reserved numbers. */
+static void sends(const struct qv_attempt *attempt, const struct qv_reserved *reserved,
+                  size_t reserved_len, const uint32_t *versions, size_t versions_len)
+{
+    uint8_t buffer[4 + 4 * (QV_MAX_TABLE + QV_MAX_RESERVED) + 1];
+    uint32_t chosen = 0, version = 0;
+    size_t i, count = 0, from = 0, to = 0;
+
+    memset(buffer, 0x77, sizeof buffer);
+    EXPECT(qv_write_client_information(attempt, reserved, reserved_len, buffer, sizeof buffer,
+                                       &count) == QV_OK);
+    EXPECT(count == 4 + 4 * versions_len && buffer[count] == 0x77);
+    EXPECT(qv_read_information(QV_CLIENT, buffer, count, &chosen, &from, &to) == QV_OK);
+    EXPECT(chosen == attempt->attempted && to - from == 4 * versions_len);
+    for (i = 0; i < versions_len; i++) {
+        EXPECT(qv_entry(buffer + from, to - from, i, &version) == 1 && version == versions[i]);
+    }
+}
+
+/* P10's own list, 1 and 2, with reserved numbers: as sent, and as may be answered. */
+static void client_reserved(void)
+{
+    static const struct qv_reserved given[] = {
+        {0x1a1a1a1au, 3}, {0x0a0a0a0au, 0}, {0xfafafafau, 5}, {0x2a2a2a2au, 2}};
+    static const uint32_t none[] = {1, 2};
+    static const uint32_t one[] = {0x0a0a0a0au, 1, 2};
+    static const uint32_t all[] = {0x0a0a0a0au, 1, 0x2a2a2a2au, 0x1a1a1a1au, 2, 0xfafafafau};
+    /* Chosen 0x0a0a0a0a, which was sent, and Available 1. */
+    static const uint8_t authenticated[] = {0x0a, 0x0a, 0x0a, 0x0a, 0, 0, 0, 1};
+    struct qv_attempt attempt = start_barring(NULL, 0).attempt;
+    const struct qv_attempt found = attempt;
+
+    sends(&attempt, NULL, 0, none, 2);
+    sends(&attempt, given + 1, 1, one, 3);
+    sends(&attempt, given, 4, all, 6);
+    owns(&attempt, none, 2);
+    EXPECT(memcmp(&attempt, &found, sizeof attempt) == 0);
+
+    /* A reserved number is sent, but may not be answered. The attempt ends; the call does not. */
+    EXPECT(qv_outcome(&attempt, 0x0a0a0a0au, authenticated, sizeof authenticated) ==
+           QV_CHOSEN_NOT_OURS);
+    EXPECT(attempt.end_mark == QV_CLOSED);
+    sends(&attempt, given, 4, all, 6);
+}
+
+/* Reserved numbers that no list is sent with: 47, after 37, and all is left as found. */
+static void bad_reserved_in_list(void)
+{
+    static const struct {
+        struct qv_reserved reserved[QV_MAX_RESERVED + 1];
+        size_t reserved_len;
+    } bad[] = {
+        {{{0x0a0a0a0bu, 0}}, 1},                            /* not reserved */
+        {{{0x0a0a0a0au, 0}, {0x0a0a0a0au, 1}}, 2},          /* repeated */
+        {{{0x0a0a0a0au, 1}, {0x1a1a1a1au, 1}}, 2},          /* a place twice */
+        {{{0x0a0a0a0au, 3}}, 1},                            /* one past the end */
+        {{{0x0a0a0a0au, 0}, {0x1a1a1a1au, UINT32_MAX}}, 2}, /* far past it */
+        {{{0x0a0a0a0au, 0}, {0x1a1a1a1au, 1}, {0x2a2a2a2au, 2}, {0x3a3a3a3au, 3}, {0x4a4a4a4au, 4}},
+         5}, /* too many */
+    };
+    const struct qv_attempt attempt = start_barring(NULL, 0).attempt;
+    uint8_t buffer[QV_MAX_INFORMATION];
+    size_t i, need, count = 7;
+
+    memset(buffer, 0x77, sizeof buffer);
+    for (i = 0; i < sizeof bad / sizeof bad[0]; i++) {
+        need = 4 + 4 * (2 + bad[i].reserved_len);
+        EXPECT(qv_write_client_information(&attempt, bad[i].reserved, bad[i].reserved_len, buffer,
+                                           need - 1, &count) == QV_NO_ROOM_FOR_INFORMATION);
+        EXPECT(qv_write_client_information(&attempt, bad[i].reserved, bad[i].reserved_len, buffer,
+                                           need, &count) == QV_BAD_RESERVED_IN_LIST);
+        EXPECT(count == 7 && buffer[0] == 0x77 && buffer[need - 1] == 0x77);
+    }
+    EXPECT(qv_close_code(QV_BAD_RESERVED_IN_LIST, QV_CALL_WRITING) == QV_CLOSE_NONE);
+}
+
 /* Barred pairs that break the pairs' rule: 43, after 41 and before 44. */
 static void bad_barred_pairs(void)
 {
@@ -499,9 +648,11 @@ static void limits(void)
 {
     uint32_t table[QV_MAX_TABLE + 1];
     struct qv_pair pairs[QV_MAX_PAIRS + 1];
+    static const uint32_t reserved[] = {0x0a0a0a0au, 0x1a1a1a1au, 0x2a2a2a2au, 0x3a3a3a3au};
     uint8_t received[QV_MIN_ANSWERED_DATAGRAM], packet[QV_MAX_PACKET];
     size_t i, count = 0;
 
+    EXPECT(QV_MAX_PACKET == 789 && sizeof reserved / sizeof reserved[0] == QV_MAX_RESERVED);
     for (i = 0; i <= QV_MAX_TABLE; i++) {
         table[i] = (uint32_t)i + 1;
     }
@@ -512,11 +663,47 @@ static void limits(void)
     memset(received, 255, sizeof received);
     EXPECT(qv_is_table(table, QV_MAX_TABLE) == 1 && qv_is_table(table, QV_MAX_TABLE + 1) == 0);
     EXPECT(qv_are_pairs(pairs, QV_MAX_PAIRS) == 1 && qv_are_pairs(pairs, QV_MAX_PAIRS + 1) == 0);
-    EXPECT(qv_write_version_negotiation(received, sizeof received - 1, table, QV_MAX_TABLE, 0,
-                                        packet, sizeof packet, &count) == QV_DATAGRAM_TOO_SMALL);
-    EXPECT(qv_write_version_negotiation(received, sizeof received, table, QV_MAX_TABLE, 0, packet,
-                                        sizeof packet, &count) == QV_OK);
+    EXPECT(qv_write_version_negotiation(received, sizeof received - 1, table, QV_MAX_TABLE,
+                                        reserved, QV_MAX_RESERVED, 0, packet, sizeof packet,
+                                        &count) == QV_DATAGRAM_TOO_SMALL);
+    EXPECT(qv_write_version_negotiation(received, sizeof received, table, QV_MAX_TABLE, reserved,
+                                        QV_MAX_RESERVED, 0, packet, sizeof packet - 1,
+                                        &count) == QV_NO_ROOM_FOR_PACKET);
+    EXPECT(qv_write_version_negotiation(received, sizeof received, table, QV_MAX_TABLE, reserved,
+                                        QV_MAX_RESERVED, 0, packet, sizeof packet,
+                                        &count) == QV_OK);
     EXPECT(count == QV_MAX_PACKET);
+}
+
+/* The longest list that is sent: every entry of a full table, and reserved numbers about them. */
+static void longest_list(void)
+{
+    static const struct qv_reserved reserved[] = {{0x0a0a0a0au, 0},
+                                                  {0x1a1a1a1au, QV_MAX_TABLE + 3},
+                                                  {0x2a2a2a2au, 1},
+                                                  {0x3a3a3a3au, QV_MAX_TABLE + 2}};
+    uint32_t table[QV_MAX_TABLE], list[QV_MAX_TABLE + QV_MAX_RESERVED];
+    struct qv_pair pairs[QV_MAX_TABLE - 1];
+    struct qv_started started;
+    size_t i;
+
+    for (i = 0; i < QV_MAX_TABLE; i++) {
+        table[i] = (uint32_t)i + 1;
+        list[2 + i] = table[i];
+    }
+    for (i = 0; i < QV_MAX_TABLE - 1; i++) {
+        pairs[i].from = QV_MAX_TABLE;
+        pairs[i].to = table[i];
+    }
+    list[0] = 0x0a0a0a0au;
+    list[1] = 0x2a2a2a2au;
+    list[QV_MAX_TABLE + 2] = 0x3a3a3a3au;
+    list[QV_MAX_TABLE + 3] = 0x1a1a1a1au;
+    started = qv_start(table, QV_MAX_TABLE, pairs, QV_MAX_TABLE - 1, NULL, 0, QV_MAX_TABLE, NULL, 0,
+                       NULL, 0);
+    EXPECT(started.refusal == QV_OK);
+    sends(&started.attempt, NULL, 0, table, QV_MAX_TABLE);
+    sends(&started.attempt, reserved, QV_MAX_RESERVED, list, QV_MAX_TABLE + QV_MAX_RESERVED);
 }
 
 static void small_calls(void)
@@ -847,6 +1034,7 @@ int main(void)
 
     layout();
     limits();
+    longest_list();
     small_calls();
     words();
     words_at_the_limits();
@@ -855,6 +1043,7 @@ int main(void)
     parameters_refused();
     parameters_at_the_limits();
     count = server(packet);
+    bad_reserved_in_packet();
     server_choice();
     server_choice_barring();
     server_choice_at_the_limit();
@@ -862,6 +1051,8 @@ int main(void)
     client_refuses(packet, count);
     client_barring();
     bad_barred_pairs();
+    client_reserved();
+    bad_reserved_in_list();
     null_with_length_0();
     null_with_length_0_as_words();
     null_with_length_0_as_parameters();

@@ -130,8 +130,8 @@ struct qv_pair {
 };
 
 /*
- * A reserved number (0x?a?a?a?a, RFC 9000 section 15) for a client's list, and its place in the list
- * as it is sent, counted from 0.
+ * A reserved number (0x?a?a?a?a, RFC 9000 section 15) for a client's list, and its place in the
+ * list as it is sent, counted from 0.
  */
 struct qv_reserved {
     uint32_t number;
@@ -492,13 +492,13 @@ uint32_t qv_own_list(const struct qv_attempt *attempt, uint32_t versions[QV_MAX_
  * Writes the client's Version Information from its record: the attempted version as Chosen, then
  * the own list as sent, with the reserved numbers at their places (RFC 9000 section 6.3) and the
  * entries of the own list, in their order, at the others.
- * `reserved` has 0 to QV_MAX_RESERVED numbers, all of them reserved, none twice; no place twice, and
- * none at or past the end of the list as sent, which has an entry for each of the own list and for
- * each number given.
- * This is no event. The record is only read, and may have ended; neither the buffer nor *count lies
- * in it.
- * Refusals, in order: 255 (see struct qv_attempt), 37 (all numbers given are counted, however many),
- * 47. They leave buffer and count as found.
+ * `reserved` has 0 to QV_MAX_RESERVED numbers, all of them reserved, none twice; no place is taken
+ * twice, and none is past the end: places are below the entries of the own list and the numbers
+ * given, counted together.
+ * This is no event. The record is only read, and the attempt may have ended; neither the buffer nor
+ * *count lies in the record.
+ * Refusals, in order: 255 (see struct qv_attempt), 37 (all numbers given are counted, however
+ * many), 47. They leave buffer and count as found.
  * Else: *count bytes are written, at most QV_MAX_INFORMATION; bytes past them keep their values.
  */
 QV_CHECKED

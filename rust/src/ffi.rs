@@ -5,7 +5,7 @@
 //! nothing else. An impossible record or an unknown kind is answered with 255.
 //!
 //! The module is private. Tests and benchmark that call the library by its numbers have this file
-//! as a module of their own; `crate::Pair` and `crate::Reserved` are those of `quic_version` there too.
+//! as a module of their own; `crate::Pair` and `crate::Reserved` are the crate's there too.
 
 use crate::{Pair, Reserved};
 use std::mem::{align_of, size_of};

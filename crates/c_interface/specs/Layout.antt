@@ -5,9 +5,9 @@ use Rattle.versions.specs.Limits.{maxTable}
 use Rattle.attempt.specs.Limits.{maxID}
 use Rattle.c_record.specs.declared.Record.{Record}
 
--- The name of `qv_interface_7` has this number too
+-- The name of `qv_interface_8` has this number too
 abbrev pub interfaceVersion : ℕ
-interfaceVersion = 7
+interfaceVersion = 8
 
 -- The size of the record in bytes: a row and a version for each place of the table, two connection IDs, ten numbers. No
 -- padding, which C and Rust check

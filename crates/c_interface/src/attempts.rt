@@ -1,9 +1,10 @@
-// The attempt over its record without enums: the start, the events, the own list; the record's layout.
+// The attempt over its record without enums: the start, the events, the own list, the client's Version Information; the
+// record's layout.
 ghost use mathlib.Core.Path.{_≡_};
 ghost use lib.ListN.{length};
 ghost use Rattle.refusals.specs.Written.{leaves};
 ghost use Rattle.attempt.specs.Start.{inputOf};
-ghost use Rattle.c_record.specs.Records.{stepRecord, startRecord, shownLeft};
+ghost use Rattle.c_record.specs.Records.{stepRecord, startRecord, recordInformation, shownLeft};
 ghost use Rattle.c_interface.specs.Layout.{knownRecord, recordSize};
 ghost use Rattle.c_interface.specs.Numbers.{returned, leaving, ownAnswer};
 use crate::RECORD_SIZE;
@@ -13,7 +14,9 @@ use c_record::Record;
 use c_record::RecordAndRefusal;
 use c_record::attempts::put_own;
 use c_record::attempts::start_record;
+use c_record::attempts::write_record_information;
 use c_record::events::step_record;
+use refusals::Written;
 use versions::MAX_TABLE;
 
 // One event in place. `kind` is 0 for a datagram, 1 for a processed packet, 2 for an outcome with information given,
@@ -76,6 +79,44 @@ fn put_own_list(held: Record, versions: &mut [u32; MAX_TABLE], count: &mut usize
     }
     *count = own.count;
     0
+}
+
+// Writes the client's Version Information from its record: the attempted version as Chosen, and the own list as sent, with
+// reserved numbers, each with its place in that list, counted from 0. It is no event: the record stays as it is. Refusals, in
+// order: 255 for a record that could not be an attempt's, 37, 47, which leave buffer and count as found; else 0, and `count`
+// bytes of the buffer are written.
+#[no_mangle]
+pub extern "C" fn qv_write_client_information(
+    held: &Record,
+    reserved: &[[u32; 2]],
+    buffer: &mut [u8],
+    count: &mut usize,
+) -> u32
+    ensures answer { λ r. ⌜ r ≡ returned (recordInformation (now (held .entry)) (now (reserved .entry)) (length (now (buffer .entry)))) ⌝ }
+    ensures left { λ _. ⌜ now (buffer .exit) ≡ leaves (recordInformation (now (held .entry)) (now (reserved .entry)) (length (now (buffer .entry)))) (now (buffer .entry)) ⌝ }
+    ensures counted { λ _. ⌜ now (count .exit) ≡ leaving length (recordInformation (now (held .entry)) (now (reserved .entry)) (length (now (buffer .entry)))) (now (count .entry)) ⌝ }
+{
+    put_client_information(*held, reserved, buffer, count)
+}
+
+// The same of a record by value.
+fn put_client_information(
+    held: Record,
+    reserved: &[[u32; 2]],
+    buffer: &mut [u8],
+    count: &mut usize,
+) -> u32
+    ensures answer { λ r. ⌜ r ≡ returned (recordInformation held (now (reserved .entry)) (length (now (buffer .entry)))) ⌝ }
+    ensures left { λ _. ⌜ now (buffer .exit) ≡ leaves (recordInformation held (now (reserved .entry)) (length (now (buffer .entry)))) (now (buffer .entry)) ⌝ }
+    ensures counted { λ _. ⌜ now (count .exit) ≡ leaving length (recordInformation held (now (reserved .entry)) (length (now (buffer .entry)))) (now (count .entry)) ⌝ }
+{
+    match write_record_information(held, reserved, buffer) {
+        Written::Refused(refusal) => refusal.0 as u32,
+        Written::Count(sent_length) => {
+            *count = sent_length;
+            0
+        }
+    }
 }
 
 // A record with known values in every field, to compare the layout with.

@@ -7,7 +7,7 @@ ghost use Prim.Native.Nat.{_≤_};
 ghost use Rattle.c_interface.specs.Layout.{interfaceVersion};
 ghost use Rattle.c_interface.specs.Numbers.{closeNumber, callOf, codeFor};
 
-pub mod attempts; // the attempt: start, events, own list
+pub mod attempts; // the attempt: start, events, own list, Version Information
 pub mod choices; // tables, pairs and choices
 pub mod transport; // variable-length integers, transport parameters
 pub mod wire; // headers, packets, Version Information
@@ -20,7 +20,7 @@ use refusals::Refusal;
 use versions::MAX_TABLE;
 
 // The version of this interface; it changes with every function, record or answer that changes.
-pub const INTERFACE_VERSION: u32 = 7;
+pub const INTERFACE_VERSION: u32 = 8;
 // The size of the record in bytes.
 pub const RECORD_SIZE: usize = 12 * MAX_TABLE + 2 * MAX_ID + 40;
 // The close code that is none, for an unknown kind of call.
@@ -36,7 +36,7 @@ pub extern "C" fn qv_interface_version() -> u32
 // The same under a name that has the number: a program that was compiled for another interface does not link. The name
 // changes with INTERFACE_VERSION.
 #[no_mangle]
-pub extern "C" fn qv_interface_7() -> u32
+pub extern "C" fn qv_interface_8() -> u32
     ensures { λ r. ⌜ r ≡ interfaceVersion ⌝ }
 {
     INTERFACE_VERSION

@@ -85,26 +85,28 @@ fn places_of(first: Span, second: Span, third: Span) -> [usize; 6]
     ]
 }
 
-// Writes the Version Negotiation packet that answers a received datagram. Refusals: 11, 12, 20 to 26, which leave
-// buffer and count as found; else 0, and `count` bytes of the buffer are written.
+// Writes the Version Negotiation packet that answers a received datagram; it ends with the reserved numbers, in the order
+// given. Refusals: 11, 12, 20 to 26, 28, which leave buffer and count as found; else 0, and `count` bytes of the buffer are
+// written.
 #[no_mangle]
 pub extern "C" fn qv_write_version_negotiation(
     received: &[u8],
     offered: &[u32],
+    reserved: &[u32],
     unused_bits: u8,
     buffer: &mut [u8],
     count: &mut usize,
 ) -> u32
     ensures answer { λ r. ⌜ r ≡ returned
-        (negotiationPacket (now (received .entry)) (now (offered .entry)) «unused_bits» (length (now (buffer .entry)))) ⌝ }
+        (negotiationPacket (now (received .entry)) (now (offered .entry)) (now (reserved .entry)) «unused_bits» (length (now (buffer .entry)))) ⌝ }
     ensures left { λ _. ⌜ now (buffer .exit) ≡ leaves
-        (negotiationPacket (now (received .entry)) (now (offered .entry)) «unused_bits» (length (now (buffer .entry))))
+        (negotiationPacket (now (received .entry)) (now (offered .entry)) (now (reserved .entry)) «unused_bits» (length (now (buffer .entry))))
         (now (buffer .entry)) ⌝ }
     ensures counted { λ _. ⌜ now (count .exit) ≡ leaving length
-        (negotiationPacket (now (received .entry)) (now (offered .entry)) «unused_bits» (length (now (buffer .entry))))
+        (negotiationPacket (now (received .entry)) (now (offered .entry)) (now (reserved .entry)) «unused_bits» (length (now (buffer .entry))))
         (now (count .entry)) ⌝ }
 {
-    match write_version_negotiation(received, offered, unused_bits, buffer) {
+    match write_version_negotiation(received, offered, reserved, unused_bits, buffer) {
         Written::Refused(refusal) => refusal.0 as u32,
         Written::Count(packet_length) => {
             *count = packet_length;

@@ -1,4 +1,4 @@
-// One start, own list or event of a client, and one line with its answer.
+// One start, own list, Version Information or event of a client, and one line with its answer.
 ghost use Rattle.attempt.specs.Events.{Reachable};
 use crate::say::number;
 use crate::say::refused;
@@ -11,9 +11,14 @@ use attempt::End;
 use attempt::Event;
 use attempt::StartAnswer;
 use attempt::own::own_list;
+use client_information::write_client_information;
 use client_start::start;
 use client_step::step;
 use information::Presence;
+use lists::Entry;
+use lists::VERSION_BYTES;
+use lists::entry_at;
+use refusals::Written;
 
 // A start with table 14, 12, 10 and nothing barred, which may be refused.
 pub(crate) fn begin(
@@ -53,6 +58,31 @@ pub(crate) fn own(label: &[u8], attempt: Attempt) {
     let count = own.count;
     versions(&list, count);
     text(b"\n");
+}
+
+// The Version Information of an attempt's client, with reserved numbers and their places: its numbers in their order.
+pub(crate) fn sent(label: &[u8], attempt: Attempt, reserved: &[[u32; 2]], buffer: &mut [u8]) {
+    text(label);
+    match write_client_information(attempt, reserved, buffer) {
+        Written::Refused(refusal) => {
+            text(b" ");
+            refused(refusal);
+        }
+        Written::Count(count) => numbers(buffer, count),
+    }
+    text(b"\n");
+}
+
+// The numbers that lie in the first bytes, as many as `count`.
+fn numbers(bytes: &[u8], count: usize) {
+    let mut place = 0;
+    while place < count / VERSION_BYTES {
+        match entry_at(bytes, place) {
+            Entry::Version(number) => version(b" ", number),
+            Entry::Nothing => {}
+        }
+        place += 1;
+    }
 }
 
 fn answered(answer: Answer) {

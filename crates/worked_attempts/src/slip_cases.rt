@@ -41,7 +41,7 @@ fn ids_are_swapped() {
     received[9] = 0xcc;
     received[10] = 0xff;
     let mut packet = [0u8; 22];
-    write_version_negotiation(&received, &[14, 13, 10], 64, &mut packet);
+    write_version_negotiation(&received, &[14, 13, 10], &[], 64, &mut packet);
     datagram(
         b"the client whose datagram it answers gets that packet: ",
         records::plain(),

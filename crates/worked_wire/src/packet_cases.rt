@@ -4,10 +4,11 @@ use crate::show::packet_count;
 use invariants::MAX_CONNECTION_ID;
 use lists::VERSION_BYTES;
 use negotiation::MIN_ANSWERED_DATAGRAM;
+use versions::MAX_RESERVED;
 use versions::MAX_TABLE;
 
-// The bytes of the longest packet: two of the longest connection IDs, a full table offered.
-const LONGEST: usize = 7 + 2 * MAX_CONNECTION_ID + VERSION_BYTES * MAX_TABLE;
+// The bytes of the longest packet: two of the longest connection IDs, a full table offered, all reserved numbers.
+const LONGEST: usize = 7 + 2 * MAX_CONNECTION_ID + VERSION_BYTES * (MAX_TABLE + MAX_RESERVED);
 // One entry more than a table may have.
 const ENTRIES: usize = MAX_TABLE + 1;
 
@@ -51,7 +52,7 @@ pub(crate) fn padded_case() -> [u8; MIN_ANSWERED_DATAGRAM] {
 }
 
 // Each byte of the datagram is 255, and so is the length of each connection ID. The buffer has no byte more than the
-// packet.
+// longest packet.
 fn longest() {
     let datagram = [255u8; MIN_ANSWERED_DATAGRAM];
     let offered = counted();
@@ -60,12 +61,21 @@ fn longest() {
         b"packet for connection IDs of 255 bytes, a full table offered: ",
         &datagram,
         most(&offered),
+        &[],
+        &mut buffer,
+    );
+    packet_count(
+        b"packet for the same, with four reserved numbers: ",
+        &datagram,
+        most(&offered),
+        &[0x1a2a3a4a, 0x0a0a0a0a, 0xfafafafa, 0x5a6a7a8a],
         &mut buffer,
     );
     packet_count(
         b"packet for the same, a table with one entry more offered: ",
         &datagram,
         &offered,
+        &[],
         &mut buffer,
     );
 }

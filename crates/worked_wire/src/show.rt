@@ -98,14 +98,33 @@ pub(crate) fn packet(
     buffer: &mut [u8],
 ) {
     text(label);
-    let answer = write_version_negotiation(datagram, offered, unused_bits, buffer);
+    let answer = write_version_negotiation(datagram, offered, &[], unused_bits, buffer);
+    written_in(answer, buffer);
+}
+
+// The same with reserved numbers at its end, and unused bits 64.
+pub(crate) fn packet_with(
+    label: &[u8],
+    datagram: &[u8],
+    offered: &[u32],
+    reserved: &[u32],
+    buffer: &mut [u8],
+) {
+    text(label);
+    let answer = write_version_negotiation(datagram, offered, reserved, 64, buffer);
     written_in(answer, buffer);
 }
 
 // The same with the count alone.
-pub(crate) fn packet_count(label: &[u8], datagram: &[u8], offered: &[u32], buffer: &mut [u8]) {
+pub(crate) fn packet_count(
+    label: &[u8],
+    datagram: &[u8],
+    offered: &[u32],
+    reserved: &[u32],
+    buffer: &mut [u8],
+) {
     text(label);
-    written(write_version_negotiation(datagram, offered, 127, buffer));
+    written(write_version_negotiation(datagram, offered, reserved, 127, buffer));
     text(b"\n");
 }
 

@@ -7,6 +7,6 @@ use negotiation::write_version_negotiation;
 pub(crate) fn all() {
     let received = padded_case();
     let mut packet = [0u8; 22];
-    write_version_negotiation(&received, &[14, 13, 10], 64, &mut packet);
+    write_version_negotiation(&received, &[14, 13, 10], &[], 64, &mut packet);
     header_of(&packet, 0);
 }

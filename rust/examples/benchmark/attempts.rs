@@ -17,13 +17,13 @@ type Answer = Result<u32, u8>;
 
 /// The library's attempt and plain Rust's, after the same calls.
 #[derive(Clone)]
-struct Both {
-    library: Part<Attempt>,
-    plain: Part<PlainAttempt>,
+pub struct Both {
+    pub library: Part<Attempt>,
+    pub plain: Part<PlainAttempt>,
 }
 
 impl Both {
-    fn start(
+    pub fn start(
         versions: &[u32],
         pairs: &[Pair],
         original: u32,
@@ -162,15 +162,19 @@ fn starts(table: &mut Table) {
         );
         own_list_row(table, &both, versions.len());
     }
-    // The longest own list: every entry of a full table.
-    let last = full.0[MAX_TABLE - 1];
+    own_list_row(table, &longest_own_list(), MAX_TABLE);
+}
+
+/// The longest own list: every entry of a full table.
+pub fn longest_own_list() -> Both {
+    let versions = full().0;
+    let last = versions[MAX_TABLE - 1];
     let all = |to: &u32| Pair {
         from: last,
         to: *to,
     };
-    let pairs: Vec<Pair> = full.0[..MAX_TABLE - 1].iter().map(all).collect();
-    let both = Both::start(&full.0, &pairs, last, destination, source);
-    own_list_row(table, &both, MAX_TABLE);
+    let pairs: Vec<Pair> = versions[..MAX_TABLE - 1].iter().map(all).collect();
+    Both::start(&versions, &pairs, last, &[7; 8], &[8; 8])
 }
 
 fn own_list_row(table: &mut Table, both: &Both, entries: usize) {

@@ -12,7 +12,7 @@
 //! first row of the events is that copy alone.
 //!
 //! A second table has hostile transport parameters, beside a pass of plain Rust that only steps over
-//! them. Last are the aims of C-11 and C-17, and whether they were kept.
+//! them. Last are the aims of C-11, C-17 and C-18, and whether they were kept.
 
 mod aims;
 mod attempts;
@@ -28,6 +28,7 @@ mod plain;
 #[allow(dead_code)]
 #[path = "../../src/ffi.rs"]
 mod raw;
+mod reserved;
 #[allow(dead_code)]
 #[path = "../screening/text.rs"]
 mod text;
@@ -39,7 +40,7 @@ mod wire;
 mod words;
 
 use measure::Table;
-use quic_version::Pair;
+use quic_version::{Pair, Reserved};
 use std::env;
 use std::process::exit;
 
@@ -47,6 +48,7 @@ fn main() {
     let mut table = Table::begin(only());
     wire::rows(&mut table);
     attempts::rows(&mut table);
+    let reserved = reserved::rows(&mut table);
     choices::rows(&mut table);
     let barring = barring::rows(&mut table);
     words::rows(&mut table);
@@ -54,7 +56,7 @@ fn main() {
     let read_and_written = parameters::rows(&mut table);
     let hostile = hostile::rows(&mut table);
     table.end();
-    aims::print(&barring, read_and_written, &hostile);
+    aims::print(&barring, &reserved, read_and_written, &hostile);
     println!();
     println!(
         "Record: {} bytes.",

@@ -5,8 +5,8 @@ use crate::packet::{information, long_packet};
 use crate::{plain, raw};
 use quic_version::{
     read_header, read_information, write_information, write_version_negotiation, Sender,
-    WriteRefusal, MAX_AVAILABLE, MAX_CONNECTION_ID, MAX_INFORMATION, MAX_PACKET, MAX_TABLE,
-    MIN_ANSWERED_DATAGRAM,
+    WriteRefusal, MAX_AVAILABLE, MAX_CONNECTION_ID, MAX_INFORMATION, MAX_PACKET, MAX_RESERVED,
+    MAX_TABLE, MIN_ANSWERED_DATAGRAM,
 };
 
 pub fn rows(table: &mut Table) {
@@ -22,7 +22,7 @@ fn small() -> Vec<u8> {
 }
 
 /// The same, followed by zeros up to the fewest bytes that are answered.
-fn answered() -> Vec<u8> {
+pub fn answered() -> Vec<u8> {
     let mut datagram = small();
     datagram.resize(MIN_ANSWERED_DATAGRAM, 0);
     datagram
@@ -57,14 +57,24 @@ fn header_places(table: &mut Table) {
     );
 }
 
-fn packets(table: &mut Table) {
-    let most: Vec<u32> = (100..).take(MAX_TABLE).collect();
+/// A datagram whose connection IDs are as long as they may be.
+pub fn large() -> Vec<u8> {
     let ids = ([7; MAX_CONNECTION_ID], [8; MAX_CONNECTION_ID]);
-    let large = long_packet(0xc0, 12, &ids.0, &ids.1, &[9; MIN_ANSWERED_DATAGRAM]);
+    long_packet(0xc0, 12, &ids.0, &ids.1, &[9; MIN_ANSWERED_DATAGRAM])
+}
+
+/// As many versions as may be offered.
+pub fn most() -> Vec<u32> {
+    (100..).take(MAX_TABLE).collect()
+}
+
+/// Without reserved numbers.
+fn packets(table: &mut Table) {
+    let (large, most) = (large(), most());
     for (received, offered, answer) in [
         (&small()[..], &[14, 13, 10][..], Err(20)),
         (&answered(), &[14, 13, 10], Ok(22)),
-        (&large, &most, Ok(MAX_PACKET)),
+        (&large, &most, Ok(MAX_PACKET - 4 * MAX_RESERVED)),
     ] {
         let (mut buffer, mut other) = ([0; MAX_PACKET], [0; MAX_PACKET]);
         let count = write_version_negotiation(received, offered, 64, &mut buffer);

@@ -39,7 +39,7 @@ mod text;
 mod turns;
 
 use growth::Growth;
-use quic_version::Pair;
+use quic_version::{Pair, Reserved};
 use random::Random;
 use std::env;
 use std::process::exit;

@@ -4,6 +4,7 @@ mod barring;
 mod configurations;
 mod link;
 mod parameters;
+mod reserved;
 mod words;
 
 /// The page's client, and tests that run it.
@@ -33,7 +34,8 @@ fn code_of_the_page() {
             include_str!("page/words.rs"),
             include_str!("page/client.rs"),
             include_str!("page/server.rs"),
-            include_str!("page/barring.rs")
+            include_str!("page/barring.rs"),
+            include_str!("page/reserved.rs")
         ]
     );
 }

@@ -257,6 +257,9 @@ impl Random {
             c.version = attempt.attempted;
             c.readable = vec![attempt.attempted];
             c.accepted = attempt.table.clone();
+            if self.one_in(3) && c.accepted.len() > 1 {
+                c.accepted.retain(|v| *v != attempt.attempted);
+            }
             self.shuffle(&mut c.accepted);
             c.pairs = attempt.pairs.clone();
             let own = attempt.own_list();
@@ -265,8 +268,8 @@ impl Random {
         c
     }
 
-    /// A datagram that may be answered, mostly of the attempt's first flight and with its IDs, and what
-    /// the server puts into the packet.
+    /// A datagram that may be answered, mostly of the attempt's first flight and with its IDs, and
+    /// what the server puts into the packet.
     pub fn answer_to(&mut self, attempt: &Attempt) -> NegotiationCall {
         let (mut destination, source) = (attempt.destination.clone(), attempt.source.clone());
         if self.one_in(8) {

@@ -7,6 +7,8 @@ use native.Mathlib.Omega.{arith}
 use borrow.Author.Needs.{needs}
 use borrow.Author.Tests.{lt-leb, le-leb, not-true, not-false}
 use lib.ListN.{length, drop, getD}
+use denote.Ref.{now}
+use Rattle.versions.specs.Limits.{maxReserved}
 use Rattle.versions.specs.Version.{reserved}
 use Rattle.versions.proofs.Lists.{part-rest}
 use Rattle.attempt.specs.AsSent.{numberIn, placeIn, isTaken, eachGivenKeepsRule, givenKeepRule}
@@ -60,11 +62,15 @@ later c =
 
 returns : tie.Need-returns Inv-loop μ-loop
 unfolding givenKeepRule
-returns c = rw (lt-leb _ _ (c .if1 .taken))
+returns c =
+    let many : maxReserved < length (now (c .before .args .reserved)) = omega arith in
+    rw (lt-leb _ _ many)
 
 loop-holds : tie.Need-loop-holds Inv-loop μ-loop
 unfolding givenKeepRule
-loop-holds c = (omega arith, rw (le-leb _ _ (c .if1 .left)))
+loop-holds c =
+    let few : length (now (c .before .args .reserved)) ≤ maxReserved = omega arith in
+    (omega arith, rw (le-leb _ _ few))
 
 mul-one : tie.Need-mul-one Inv-loop μ-loop
 mul-one c = search needs

@@ -1,12 +1,13 @@
 -- `write_as_sent`: the tests in the order of the code are the rules in the order of their numbers.
 use Prim.Native.Nat.{_≤_, _<_}
-use mathlib.Core.Path.{refl, sym, ap, _∙_}
+use mathlib.Core.Path.{_≡_, refl, sym, ap, _∙_}
 use native.Mathlib.Omega.{arith}
 use borrow.Author.Needs.{needs}
 use borrow.Author.Tests.{lt-ltb, le-ltb, not-true, not-false}
 use lib.ListN.{length}
 use denote.Ref.{now}
 use Rattle.refusals.specs.Reply.{Reply.answered}
+use Rattle.attempt.specs.AsSent.{sentCount, givenKeepRule}
 use Rattle.client_information.specs.ClientInformation.{sentLength, informationAsSent}
 use Rattle.client_information.proofs.Sending.{sent-both}
 use Rattle.client_information.proofs.write_as_sent.Statement.{statement}
@@ -33,6 +34,13 @@ tested c = putting-chosen c .before .before .before
 fits : (c : tie.Else1) → let args = entry c .args in sentLength (now (args .own)) (now (args .reserved)) ≤ length (now (args .buffer))
 fits c = omega arith
 
+-- Whether those that are given keep their rule, as `are_given` answers
+as-judged :
+    (c : tie.After-are-given) →
+    let args = entry (roomy c) .args in
+    givenKeepRule (sentCount (now (args .own)) (now (args .reserved))) (now (args .reserved)) ≡ c .are-given .result
+as-judged c = sym (c .are-given .ensures)
+
 add-entries : tie.Need-add-entries
 add-entries c = search needs
 
@@ -55,7 +63,7 @@ are-given-requires c κs = search needs
 returns-2 : tie.Need-returns-2
 unfolding informationAsSent
 returns-2 c =
-    rw (le-ltb _ _ (fits (roomy (c .before))), sym (c .before .are-given .ensures) ∙ not-true _ (c .if2 .taken)) (refl, refl)
+    rw (le-ltb _ _ (fits (roomy (c .before))), as-judged (c .before) ∙ not-true _ (c .if2 .taken)) (refl, refl)
 
 slice-aggregate-put-list : tie.Need-slice-aggregate-put-list
 slice-aggregate-put-list c = search needs
@@ -82,7 +90,7 @@ returns-3 : tie.Need-returns-3
 unfolding informationAsSent
 returns-3 c =
     let room = fits (roomy (tested c .before)) in
-    let kept = sym (tested c .before .are-given .ensures) ∙ not-false _ (tested c .if2 .left) in
+    let kept = as-judged (tested c .before) ∙ not-false _ (tested c .if2 .left) in
     let args = entry (roomy (tested c .before)) .args in
     let put =
     sent-both (args .chosen) (now (args .own)) (now (args .reserved)) (now (args .buffer)) _ _ room

@@ -1,9 +1,9 @@
 //! The client's attempt, in a record of the library's size that is changed where it lies.
 
-use super::choices::{are_pairs, is_table};
+use super::choices::{are_pairs, is_reserved, is_table};
 use super::lists;
 use super::wire::{read_header, read_information};
-use quic_version::{Attempt, Pair, MAX_ID, MAX_TABLE};
+use quic_version::{Attempt, Pair, Reserved, MAX_ID, MAX_RESERVED, MAX_TABLE};
 use std::mem::size_of;
 
 #[derive(Clone, Copy)]
@@ -34,6 +34,21 @@ impl std::ops::Deref for OwnList {
     fn deref(&self) -> &[u32] {
         &self.0[..self.1]
     }
+}
+
+/// Whether these numbers may be sent in a list of so many entries.
+fn may_be_sent(reserved: &[Reserved], entries: usize) -> bool {
+    if reserved.len() > MAX_RESERVED {
+        return false;
+    }
+    for (at, given) in reserved.iter().enumerate() {
+        let same = |other: &Reserved| other.number == given.number || other.place == given.place;
+        let is_past = given.place as usize >= entries;
+        if is_past || !is_reserved(given.number) || reserved[..at].iter().any(same) {
+            return false;
+        }
+    }
+    true
 }
 
 impl PlainAttempt {
@@ -134,6 +149,29 @@ impl PlainAttempt {
             }
         }
         own
+    }
+
+    #[inline(never)]
+    pub fn write_information(&self, reserved: &[Reserved], buffer: &mut [u8]) -> Result<usize, u8> {
+        let own = self.own_list();
+        let entries = own.len() + reserved.len();
+        let count = 4 + 4 * entries;
+        if buffer.len() < count {
+            return Err(37);
+        }
+        if !may_be_sent(reserved, entries) {
+            return Err(47);
+        }
+        buffer[..4].copy_from_slice(&self.attempted.to_be_bytes());
+        let mut own = own.iter();
+        for (place, four) in buffer[4..count].chunks_exact_mut(4).enumerate() {
+            let version = match reserved.iter().find(|given| given.place as usize == place) {
+                Some(given) => given.number,
+                None => own.next().copied().unwrap_or(0),
+            };
+            four.copy_from_slice(&version.to_be_bytes());
+        }
+        Ok(count)
     }
 
     /// An event by its number in the C header, 255 for an unknown kind.

@@ -14,7 +14,10 @@ pub use parameters::{
     find_version_information, read_integer, step_over, write_integer, write_version_information,
 };
 pub use versions::{are_pairs, is_reserved, is_table};
-pub use wire::{read_header, read_information, write_information, write_version_negotiation};
+pub use wire::{
+    read_header, read_information, write_information, write_version_negotiation,
+    write_version_negotiation_with_reserved,
+};
 pub use words::{
     choose_by_word, choose_by_word_from_bytes, choose_from_word, count_held, count_held_from_bytes,
     list_word, list_word_from_bytes,

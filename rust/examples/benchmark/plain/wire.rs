@@ -1,9 +1,9 @@
 //! Headers, Version Negotiation packets and Version Information.
 
-use super::choices::is_table;
+use super::choices::{is_reserved, is_table};
 use super::{lists, number};
 use quic_version::{
-    MAX_AVAILABLE, MAX_CONNECTION_ID, MAX_DATAGRAM, MAX_INFORMATION, MAX_UNUSED_BITS,
+    MAX_AVAILABLE, MAX_CONNECTION_ID, MAX_DATAGRAM, MAX_INFORMATION, MAX_RESERVED, MAX_UNUSED_BITS,
     MIN_ANSWERED_DATAGRAM,
 };
 
@@ -57,10 +57,35 @@ pub fn read_header(datagram: &[u8], told: usize) -> Result<Header<'_>, u8> {
     Ok(header)
 }
 
-#[inline(never)]
+#[inline]
 pub fn write_version_negotiation(
     received: &[u8],
     offered: &[u32],
+    unused_bits: u8,
+    buffer: &mut [u8],
+) -> Result<usize, u8> {
+    write_version_negotiation_with_reserved(received, offered, &[], unused_bits, buffer)
+}
+
+/// Whether these numbers may end a packet that answers one of this version.
+fn may_end(reserved: &[u32], version: u32) -> bool {
+    if reserved.len() > MAX_RESERVED {
+        return false;
+    }
+    for (place, number) in reserved.iter().enumerate() {
+        let is_known = *number == version || reserved[..place].contains(number);
+        if is_known || !is_reserved(*number) {
+            return false;
+        }
+    }
+    true
+}
+
+#[inline(never)]
+pub fn write_version_negotiation_with_reserved(
+    received: &[u8],
+    offered: &[u32],
+    reserved: &[u32],
     unused_bits: u8,
     buffer: &mut [u8],
 ) -> Result<usize, u8> {
@@ -92,9 +117,12 @@ pub fn write_version_negotiation(
     }
     // The received IDs swapped.
     let (to, from) = (header.source, header.destination);
-    let count = 7 + to.len() + from.len() + 4 * offered.len();
+    let count = 7 + to.len() + from.len() + 4 * (offered.len() + reserved.len());
     if buffer.len() < count {
         return Err(26);
+    }
+    if !may_end(reserved, version) {
+        return Err(28);
     }
     buffer[0] = 128 + unused_bits;
     buffer[1..5].copy_from_slice(&[0; 4]);
@@ -105,6 +133,7 @@ pub fn write_version_negotiation(
     buffer[at + 1..at + 1 + from.len()].copy_from_slice(from);
     let at = at + 1 + from.len();
     in_fours(offered, &mut buffer[at..]);
+    in_fours(reserved, &mut buffer[at + 4 * offered.len()..]);
     Ok(count)
 }
 

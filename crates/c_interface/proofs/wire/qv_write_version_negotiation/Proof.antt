@@ -27,27 +27,33 @@ enum-known-packet-length c = search needs
 same-length : tie.Need-same-length
 same-length c = search needs
 
+-- The start, seen from the writer's answer
+abbrev entry : tie.After-write-version-negotiation → tie.Start
+entry c = c .before .before .before .before .before .before
+
 -- What has to be written
-abbrev owed : tie.Start → Reply (List ℕ)
-owed c = negotiationPacket (now (c .args .received)) (now (c .args .offered)) (c .args .unused-bits)
-    (length (now (c .args .buffer)))
+abbrev owed : tie.After-write-version-negotiation → Reply (List ℕ)
+owed c =
+    let args = entry c .args in
+    negotiationPacket (now (args .received)) (now (args .offered)) (now (args .reserved)) (args .unused-bits)
+    (length (now (args .buffer)))
 
 returns : tie.Need-returns
 returns c =
-    let w = c .before .before .before .before .before .before .write-version-negotiation .ensures in
+    let answer = c .before .before .before .before .before .before in
+    let w = answer .write-version-negotiation .ensures in
     let e = sym (ap writtenReply (c .before .before .refusal .given .1)) ∙ w .0 in
-    let o = owed (c .before .before .before .before .before .before .before .before .before .before .before) in
-    (written-returned o e, (w .1, written-count o _ e))
+    (written-returned (owed answer) e, (w .1, written-count (owed answer) _ e))
 
 same-length-2 : tie.Need-same-length-2
 same-length-2 c = search needs
 
 returns-2 : tie.Need-returns-2
 returns-2 c =
-    let w = c .before .before .before .before .before .write-version-negotiation .ensures in
+    let answer = c .before .before .before .before .before in
+    let w = answer .write-version-negotiation .ensures in
     let e = sym (ap writtenReply (c .before .packet-length .given .1)) ∙ w .0 in
-    let o = owed (c .before .before .before .before .before .before .before .before .before .before) in
-    (written-returned o e, (w .1, written-count o _ e))
+    (written-returned (owed answer) e, (w .1, written-count (owed answer) _ e))
 
 pub qv-write-version-negotiation-spec : {M : Type 1} → statement M
 qv-write-version-negotiation-spec =
