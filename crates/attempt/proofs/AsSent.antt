@@ -1,7 +1,7 @@
 -- The own list as sent (document 02, C-18). It has as many entries as it was given; each reserved number stands at its place;
 -- without the reserved numbers it is the own list in its order. With none given it is the own list itself.
 use Prim.Native.Nat.{ℕ, zero, suc, _+_, _<_, _≤_}
-use mathlib.Core.Bool.{Bool, true, false, cond, not, _&&_, _||_, true≢false, false≢true}
+use mathlib.Core.Bool.{Bool, true, false, cond, not, _||_, true≢false}
 use mathlib.Core.List.{List, [], _∷_}
 use mathlib.Core.Option.{Option, Option.none, Option.some, Option·none-ne-some, Option·some-injective}
 use mathlib.Core.Path.{_≡_, refl, sym, ap, subst, _∙_}
@@ -176,8 +176,7 @@ from-some count (one ∷ given) place r k h = go (eqb (placeIn one) place) refl 
         × (reserved r ≡ true)
     go true e h k ih =
         let here : placeIn one ≡ place = eqb-true _ _ e in
-        let rest = from-none given place (sym (ap (givenFor given) here) ∙ none-for one given (k .alone)) in
-        (
+        let rest = from-none given place (sym (ap (givenFor given) here) ∙ none-for one given (k .alone)) in (
           rw (le-leb place (placeIn one) (omega arith), lt-leb (suc place) (placeIn one) (omega arith), rest) (omega arith),
           sym (ap reserved (Option·some-injective _ _ h)) ∙ k .reserves,
         )

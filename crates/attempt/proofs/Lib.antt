@@ -15,3 +15,4 @@ pub mod ReservedChosen
 pub mod Rising
 pub mod Walks
 pub mod Worked
+pub mod WorkedSent

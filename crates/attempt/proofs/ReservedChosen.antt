@@ -1,20 +1,17 @@
 -- No table and no own list of an attempt has a reserved number (document 02, C-18): what may be answered never is one, "so a
 -- reserved Chosen falls under 72". And what the own list of an attempt has: the attempted version, and few others.
 use Prim.Native.Nat.{ℕ, _≤_}
-use mathlib.Core.Bool.{Bool, true, false, not, _&&_, _||_, true≢false}
-use mathlib.Core.List.{List, _++_}
+use mathlib.Core.Bool.{Bool, true, false, true≢false}
+use mathlib.Core.List.{List}
 use mathlib.Core.Path.{_≡_, refl, sym, ap, _∙_}
 use native.Mathlib.Omega.{arith}
-use lib.Dec.{eqb, leb}
-use lib.ListN.{length, length-take}
-use borrow.Author.Tests.{leb-true}
-use Rattle.refusals.specs.Rule.{Rule, Rule._when_, lowest, clear}
+use lib.ListN.{length}
+use Rattle.refusals.specs.Rule.{Rule, lowest, clear}
 use Rattle.refusals.proofs.Rules.{both-true, lowest-append, lowest-clear}
 use Rattle.versions.specs.Limits.{maxTable}
 use Rattle.versions.specs.Reserved.{withoutReserved}
-use Rattle.versions.specs.Table.{elem, tableKeepsRule}
+use Rattle.versions.specs.Table.{elem}
 use Rattle.versions.specs.Version.{reserved}
-use Rattle.versions.specs.Words.{entriesWhere}
 use Rattle.versions.proofs.Lists.{table-counts}
 use Rattle.versions.proofs.Members.{elem-where, members-held, length-members}
 use Rattle.versions.proofs.WithoutReserved.{table-not-zero, table-not-reserved, without-none}
@@ -24,7 +21,7 @@ use Rattle.attempt.specs.Attempt.{tableOf, ownFor, ownOf, ownAsAnswered}
 use Rattle.attempt.specs.Events.{Reachable}
 use Rattle.attempt.specs.OwnList.{mayBeAnswered, ownList, wordOf}
 use Rattle.attempt.specs.Start.{Input, ourList, isAccepted, opened}
-use Rattle.attempt.specs.Step.{closed, completed, outcomeRules, informationRules, stepOf, countsFit}
+use Rattle.attempt.specs.Step.{closed, completed, outcomeRules, stepOf, countsFit}
 use Rattle.attempt.specs.declared.Attempt.{Attempt}
 use Rattle.attempt.specs.declared.End.the-variants as end
 use Rattle.attempt.specs.declared.Event.the-variants.{Outcome}
@@ -58,12 +55,11 @@ Known a = (elem (a .original) (tableOf a) ≡ true) × ((v : ℕ) → elem v (ta
 
 opened-known : (x : Input) → isAccepted x ≡ true → Known (opened x)
 opened-known x h =
-    let reads = opened-reads x in
-    (
+    let reads = opened-reads x in (
       rw (reads .table, reads .original) (start-original x h),
       λ v e.
-      let held : elem v (x .table) ≡ true = sym (ap (elem v) (reads .table)) ∙ e in
-      ap (elem v) (reads .own v held) ∙ attempted-in-list x v held,
+          let held : elem v (x .table) ≡ true = sym (ap (elem v) (reads .table)) ∙ e in
+          ap (elem v) (reads .own v held) ∙ attempted-in-list x v held,
     )
 
 known-kept : (a : Attempt) → Known a → Keeps Known a

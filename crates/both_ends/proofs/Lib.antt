@@ -1,2 +1,2 @@
-pub mod ReadAgain
 pub mod Reserved
+pub mod Worked

@@ -1,26 +1,24 @@
 -- Reserved numbers on the wire change nothing at the other end (document 02, C-18; RFC 9000 section 6.3): a packet with them
 -- gives every client's event the answer and the record that one without them gives, and the client's information with them
 -- gives every server the choice that it makes without.
-use Prim.Native.Nat.{ℕ, _+_, _^_, _<_, _≤_}
-use mathlib.Core.Bool.{Bool, true, false, not, _||_}
+use Prim.Native.Nat.{ℕ, _+_, _^_, _<_}
+use mathlib.Core.Bool.{true, false, not, _||_}
 use mathlib.Core.List.{List, [], _∷_, _++_, append-nil}
-use mathlib.Core.Path.{_≡_, refl, sym, ap, _∙_}
-use native.Mathlib.Omega.{arith}
+use mathlib.Core.Path.{_≡_, sym, ap, _∙_}
 use lib.Dec.{leb}
 use lib.ListN.{length}
 use Rattle.refusals.specs.Reply.{Reply, Reply.answered}
 use Rattle.refusals.specs.Rule.{Rule._when_, lowest}
 use Rattle.refusals.proofs.Rules.{both-true}
 use Rattle.versions.specs.Limits.{maxReserved}
-use Rattle.versions.specs.Reserved.{reservedKeepRule, eachReserved, withoutReserved}
+use Rattle.versions.specs.Reserved.{reservedKeepRule, withoutReserved}
 use Rattle.versions.specs.Table.{elem}
-use Rattle.versions.specs.Version.{reserved}
 use Rattle.versions.proofs.WithoutReserved.{same-without, without-append, without-each, table-not-reserved}
 use Rattle.lists.specs.Wire.{allBelow}
 use Rattle.information.specs.declared.Presence.the-variants.{Given}
 use Rattle.choosing.specs.Choice.{preferred}
 use Rattle.choosing.proofs.Laws.{preferred-by-membership}
-use Rattle.invariants.specs.Header.{destinationID, sourceID, listed, isReadableNegotiation}
+use Rattle.invariants.specs.Header.{destinationID, sourceID, isReadableNegotiation}
 use Rattle.invariants.proofs.Negotiations.{negotiationIn, readable-is-read}
 use Rattle.negotiation.specs.Laws.{ReadBack}
 use Rattle.negotiation.specs.Packet.{listSent, negotiationPacket}
@@ -35,7 +33,7 @@ use Rattle.attempt.proofs.ReservedChosen.{original-unreserved, own-unreserved, 
 use Rattle.client_information.specs.ClientInformation.{clientInformation}
 use Rattle.server.specs.FirstFlight.{Act, decide}
 use Rattle.server.proofs.Unseen.{reserved-unseen}
-use Rattle.both_ends.proofs.ReadAgain.{client-bytes, client-few, client-own}
+use Rattle.client_information.proofs.ReadAgain.{client-bytes, client-few, client-own}
 
 -- ---- packets
 

@@ -80,11 +80,7 @@ pub fn put_own(held: Record, versions: &mut [u32; MAX_TABLE]) -> OwnCount
 // Writes the client's Version Information of a record's attempt, with reserved numbers, each with its place in the list as
 // sent, and answers the byte count. Refusals, in order, each of which leaves the buffer as found: 255 for a record that
 // could not be an attempt's, 37, 47. Bytes of the buffer past the count keep their values.
-pub fn write_record_information(
-    held: Record,
-    reserved: &[[u32; 2]],
-    buffer: &mut [u8],
-) -> Written
+pub fn write_record_information(held: Record, reserved: &[[u32; 2]], buffer: &mut [u8]) -> Written
     ensures answer { λ r. ⌜ writtenReply r ≡ counted (recordInformation held (now (reserved .entry)) (length (now (buffer .entry)))) ⌝ }
     ensures left { λ _. ⌜ now (buffer .exit) ≡ leaves (recordInformation held (now (reserved .entry)) (length (now (buffer .entry)))) (now (buffer .entry)) ⌝ }
 {

@@ -1,3 +1,5 @@
 pub mod Given
+pub mod ReadAgain
 pub mod Rising
 pub mod Sending
+pub mod Worked

@@ -41,12 +41,7 @@ pub fn write_client_information(
 }
 
 // The same of a Chosen Version and any own list.
-pub fn write_as_sent(
-    chosen: u32,
-    own: &[u32],
-    reserved: &[[u32; 2]],
-    buffer: &mut [u8],
-) -> Written
+pub fn write_as_sent(chosen: u32, own: &[u32], reserved: &[[u32; 2]], buffer: &mut [u8]) -> Written
     ensures answer { λ r. ⌜ writtenReply r ≡ counted (informationAsSent chosen (now (own .entry)) (now (reserved .entry)) (length (now (buffer .entry)))) ⌝ }
     ensures left { λ _. ⌜ now (buffer .exit) ≡ leaves (informationAsSent chosen (now (own .entry)) (now (reserved .entry)) (length (now (buffer .entry)))) (now (buffer .entry)) ⌝ }
 {

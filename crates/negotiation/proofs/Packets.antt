@@ -1,7 +1,7 @@
 -- The Version Negotiation packet: its length, and that the header reader reads back from it what was put in. Below, r
 -- is the received datagram, o the offered table, n the reserved numbers, and l what the packet lists.
 use Prim.Native.Nat.{ℕ, zero, suc, _+_, _-_, _*_, _%_, _^_, _≤_, _<_}
-use mathlib.Core.Bool.{Bool, true, false, not, _&&_, _||_, true≢false, false≢true}
+use mathlib.Core.Bool.{Bool, true, false, not, _&&_, _||_, true≢false}
 use mathlib.Core.List.{List, [], _∷_, _++_}
 use mathlib.Core.Path.{_≡_, refl, sym, ap, _∙_, subst}
 use native.Mathlib.Omega.{arith}
@@ -9,7 +9,7 @@ use lib.Dec.{eqb, leb, ltb}
 use lib.ListN.{length, take, drop, getD, length-append}
 use lib.Seq.{getD-drop, getD-at, drop-drop, drop-at, take-at}
 use borrow.Author.Tests.{ltb-false, eqb-false, leb-true, not-true, not-false, le-ltb, le-leb, eq-eqb, ne-eqb}
-use Rattle.refusals.specs.Reply.{Reply, Reply.refused, Reply.answered, refuse}
+use Rattle.refusals.specs.Reply.{Reply, Reply.refused, Reply.answered}
 use Rattle.refusals.specs.Rule.{Rule, Rule._when_, clear}
 use Rattle.refusals.specs.declared.Call.the-variants.{Writing}
 use Rattle.refusals.proofs.Rules.{both-true, neither, answer-given}

@@ -92,7 +92,7 @@ fn informations(table: &mut Table) -> Vec<f64> {
     let at_the_end = at(&NUMBERS, &[last, last - 1, last - 2, last - 3]);
     let twice = at(&NUMBERS, &[last, 0, 33, last]);
     let longest = 4 + 4 * (MAX_TABLE + MAX_RESERVED);
-    let name = "client's information";
+    let name = "client's information writing";
     let mut ratios = Vec::new();
     for (name, both, reserved, room, answer) in [
         (name, &small, &[][..], MAX_INFORMATION, Ok(8)),
@@ -100,7 +100,7 @@ fn informations(table: &mut Table) -> Vec<f64> {
         (name, &large, &[], MAX_INFORMATION, Ok(4 + 4 * MAX_TABLE)),
         (name, &large, &about, MAX_INFORMATION, Ok(longest)),
         (
-            "client's information, numbers at the end",
+            "client's information writing, at the end",
             &large,
             &at_the_end,
             MAX_INFORMATION,
