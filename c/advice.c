@@ -866,6 +866,69 @@ static void not_the_sequence(void)
     EXPECT(count == sent_len && memcmp(bytes, sent, count) == 0);
 }
 
+/* What random_bits hands out, one after the other; 0 past the end. */
+static const uint32_t *drawn;
+static size_t drawn_len;
+
+uint32_t random_bits(void)
+{
+    if (drawn_len == 0)
+        return 0;
+    drawn_len--;
+    return *drawn++;
+}
+
+static void draws(const uint32_t *bits, size_t count)
+{
+    drawn = bits;
+    drawn_len = count;
+}
+
+/* The page's reserved numbers: whatever is drawn, nothing is refused, and nothing changes. */
+static void reserved_numbers(void)
+{
+    /* None; one at the last place; two, the same number and the same place twice. */
+    static const uint32_t none[] = {3}, one[] = {1, 0x12345678, 2};
+    static const uint32_t two[] = {2, 0xffffffff, 7, 0xffffffff, 3};
+    static const uint8_t last[] = {0, 0, 0, 1, 0x6b, 0x33, 0x43, 0xcf, 0, 0, 0, 1,
+                                   0x1a, 0x3a, 0x5a, 0x7a};
+    struct {
+        const uint32_t *bits;
+        size_t bits_len, count;
+    } cases[] = {{none, 1, 12}, {one, 3, 16}, {two, 5, 20}};
+    struct qv_attempt attempt;
+    uint8_t information[32], datagram[QV_MIN_ANSWERED_DATAGRAM], packet[QV_MAX_PACKET];
+    uint32_t chosen, decision, number = 0x0a0a0a0a, other;
+    size_t start, end, count, i;
+
+    EXPECT(client_start(&attempt, destination, sizeof destination, source, sizeof source));
+    EXPECT(was_asked("flight "));
+    for (i = 0; i < 3; i++) {
+        draws(cases[i].bits, cases[i].bits_len);
+        count = client_information(&attempt, information, sizeof information);
+        EXPECT(count == cases[i].count && drawn_len == 0);
+        EXPECT(qv_read_information(QV_CLIENT, information, count, &chosen, &start, &end) == QV_OK);
+        EXPECT(chosen == VERSION_1 && end == count);
+        EXPECT(qv_server_choice(server_table, 2, server_table, 2, server_pairs, 1, NULL, 0,
+                                VERSION_1, QV_GIVEN, information, count, &decision) == QV_OK);
+        EXPECT(decision == VERSION_2);
+        if (i == 1)
+            EXPECT(memcmp(information, last, sizeof last) == 0);
+    }
+    draws(two, 5);
+    EXPECT(client_information(&attempt, information, 19) == 0 && was_asked("fault "));
+
+    /* A flight in the very number that is drawn: the packet ends with another one. */
+    count = datagram_of(datagram, number, NULL, 0);
+    draws(&number, 1);
+    EXPECT(server_packet(datagram, count, number, packet, sizeof packet, &end) == QV_OK);
+    EXPECT(packet[end - 4] == 0x0a && packet[end - 3] == 0x0a && packet[end - 2] == 0x0a &&
+           packet[end - 1] == 0x1a);
+    other = number;
+    EXPECT(qv_write_version_negotiation(datagram, count, server_table, 2, &other, 1, 64, packet,
+                                        sizeof packet, &end) == QV_BAD_RESERVED_IN_PACKET);
+}
+
 int main(void)
 {
     client();
@@ -877,6 +940,7 @@ int main(void)
     client_and_server();
     barring();
     barring_wrongly();
+    reserved_numbers();
     missing_is_neither_empty_nor_refused();
     faults_of_the_stack();
     room_to_write();

@@ -144,7 +144,7 @@ fn order_of_the_refusals_of_a_packet() {
 /// Many numbers, all of them received ones, repeated or of another kind.
 #[test]
 fn many_numbers_that_may_not_be_sent() {
-    for count in [5, 6, 64, 65, 1_000, 5_000, 20_000] {
+    for count in [5, 6, 64, 65, 256, 257, 260, 1_000, 5_000, 65_536, 65_540] {
         for number in [0x1a2a_3a4a, 0x0a0a_0a0a, 12, 0] {
             let numbers = vec![number; count];
             assert_eq!(seen(12, &numbers), 28);

@@ -20,7 +20,9 @@ pub fn calls(seen: &mut Seen, random: &mut Random, stream: usize) {
         )
     );
 
-    client_information(seen, &random.client_call(), stream);
+    if random.one_in(2) {
+        client_information(seen, &random.client_call(), stream);
+    }
     if random.one_in(4) {
         let c = random.client_call_without_ids();
         what_is_sent(seen, random, &c, stream);
