@@ -76,7 +76,8 @@ extern "C" {
 #define QV_UNUSED_BITS_TOO_LARGE 25u         /* unused bits over 127 */
 #define QV_NO_ROOM_FOR_PACKET 26u            /* the buffer is shorter than the packet */
 #define QV_BAD_RESERVED_IN_PACKET 28u        /* a number after the offered table is not reserved,
-                                                repeated or received, or over four are given */
+                                                is repeated or is the version received, or over
+                                                four are given */
 #define QV_INFORMATION_TOO_SHORT 31u         /* under 4 bytes */
 #define QV_INFORMATION_NOT_IN_FOURS 32u      /* length not a multiple of four */
 #define QV_INFORMATION_TOO_LONG 33u          /* over 1,024 bytes, or over 255 entries to write */
@@ -91,9 +92,9 @@ extern "C" {
                                                 or over 64 versions are barred */
 #define QV_ORIGINAL_NOT_IN_TABLE 44u         /* the Original Version is not in the table */
 #define QV_CONNECTION_ID_TOO_LONG 45u        /* a connection ID over 20 bytes */
-#define QV_BAD_RESERVED_IN_LIST 47u          /* a number for the own list is not reserved or
-                                                repeated, a place is taken twice or past the end,
-                                                or over four are given */
+#define QV_BAD_RESERVED_IN_LIST 47u          /* a number for the own list is not reserved or is
+                                                repeated, a place is taken twice or is past the
+                                                end, or over four are given */
 #define QV_CHOSEN_NOT_RECEIVED 51u           /* Chosen is not the first flight's version */
 #define QV_NOT_VERSION_NEGOTIATION 61u       /* no readable Version Negotiation packet */
 #define QV_TOO_LATE 62u                      /* ended; or Version Negotiation after acted or heard */
@@ -561,7 +562,7 @@ static inline const char *qv_refusal_text(uint32_t number)
     case QV_UNUSED_BITS_TOO_LARGE: return "the unused bits are over 127";
     case QV_NO_ROOM_FOR_PACKET: return "the buffer is shorter than the packet";
     case QV_BAD_RESERVED_IN_PACKET:
-        return "a number after the offered table is not reserved, repeated or the version "
+        return "a number after the offered table is not reserved, is repeated or is the version "
                "received, or over four are given";
     case QV_INFORMATION_TOO_SHORT: return "the Version Information has under 4 bytes";
     case QV_INFORMATION_NOT_IN_FOURS:
@@ -581,8 +582,8 @@ static inline const char *qv_refusal_text(uint32_t number)
     case QV_ORIGINAL_NOT_IN_TABLE: return "the Original Version is not in the table";
     case QV_CONNECTION_ID_TOO_LONG: return "a connection ID has over 20 bytes";
     case QV_BAD_RESERVED_IN_LIST:
-        return "a number for the own list is not reserved or repeated, a place is taken twice or "
-               "past the end, or over four are given";
+        return "a number for the own list is not reserved or is repeated, a place is taken twice or "
+               "is past the end, or over four are given";
     case QV_CHOSEN_NOT_RECEIVED:
         return "the Chosen Version is not the version of the first flight";
     case QV_NOT_VERSION_NEGOTIATION:

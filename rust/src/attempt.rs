@@ -281,7 +281,7 @@ impl Attempt {
     /// - [`NoRoomForInformation`](WriteRefusal::NoRoomForInformation) (37): the buffer is shorter
     ///   than the information, with all numbers given, however many;
     /// - [`BadReservedInList`](WriteRefusal::BadReservedInList) (47): a number is not reserved or
-    ///   is repeated, a place is taken twice or past the end, or over four are given.
+    ///   is repeated, a place is taken twice or is past the end, or over four are given.
     pub fn write_information(
         &self,
         reserved: &[Reserved],

@@ -21,7 +21,7 @@ macro_rules! words {
     (24) => { "the received version is in the offered table" };
     (25) => { "the unused bits are over 127" };
     (26) => { "the buffer is shorter than the packet" };
-    (28) => { "a number after the offered table is not reserved, repeated or the version received, or over four are given" };
+    (28) => { "a number after the offered table is not reserved, is repeated or is the version received, or over four are given" };
     (31) => { "the Version Information has under 4 bytes" };
     (32) => { "the length of the Version Information is not a multiple of four" };
     (33) => { "the Version Information has over 1,024 bytes, or over 255 Available Versions" };
@@ -35,7 +35,7 @@ macro_rules! words {
     (43) => { "the compatible or barred pairs break their rule, or over 64 versions are barred" };
     (44) => { "the Original Version is not in the table" };
     (45) => { "a connection ID has over 20 bytes" };
-    (47) => { "a number for the own list is not reserved or repeated, a place is taken twice or past the end, or over four are given" };
+    (47) => { "a number for the own list is not reserved or is repeated, a place is taken twice or is past the end, or over four are given" };
     (51) => { "the Chosen Version is not the version of the first flight" };
     (61) => { "the datagram is no readable Version Negotiation packet" };
     (62) => { "the attempt has ended, or acted or heard before this Version Negotiation packet" };
