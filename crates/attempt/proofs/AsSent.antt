@@ -194,24 +194,22 @@ from-end count (one ∷ given) place k l =
     let none = from-end count given place (one-kept .others) l in
     rw (lt-leb place (placeIn one) (omega arith)) (omega arith)
 
+-- The places that are left behind a place, counted from the next one
+next-left : (left place : ℕ) (given : List (List ℕ)) → eachGivenKeepsRule (place + suc left) given ≡ true
+    → eachGivenKeepsRule (suc place + left) given ≡ true
+next-left left place given k =
+    let same : place + suc left ≡ suc place + left = omega arith in
+    subst (λ (n : ℕ). eachGivenKeepsRule n given ≡ true) same k
+
 -- no more are given from a place on than there are places
 from-most : (left place : ℕ) (given : List (List ℕ)) → eachGivenKeepsRule (place + left) given ≡ true → fromPlace place given ≤ left
 from-most zero place given k = let e = from-end (place + 0) given place k (omega arith) in omega arith
-from-most (suc left) place given k = go (givenFor given place) refl (from-most left (suc place) given)
+from-most (suc left) place given k =
+    go (givenFor given place) refl (from-most left (suc place) given (next-left left place given k))
   where
-    same : place + suc left ≡ suc place + left
-    same = omega arith
-
-    go : (o : Option ℕ) → givenFor given place ≡ o →
-        (eachGivenKeepsRule (suc place + left) given ≡ true → fromPlace (suc place) given ≤ left) → fromPlace place given ≤ suc left
-    go none e ih =
-        let more = ih (subst (λ (n : ℕ). eachGivenKeepsRule n given ≡ true) same k) in
-        let stays = from-none given place e in
-        omega arith
-    go (some r) e ih =
-        let more = ih (subst (λ (n : ℕ). eachGivenKeepsRule n given ≡ true) same k) in
-        let less = from-some _ given place r k e .0 in
-        omega arith
+    go : (o : Option ℕ) → givenFor given place ≡ o → fromPlace (suc place) given ≤ left → fromPlace place given ≤ suc left
+    go none e more = let stays = from-none given place e in omega arith
+    go (some r) e more = let less = from-some _ given place r k e .0 in omega arith
 
 from-without : (left place : ℕ) (own : List ℕ) (given : List (List ℕ)) → eachGivenKeepsRule (place + left) given ≡ true
     → length own + fromPlace place given ≡ left → withoutReserved (sentFrom left place own given) ≡ withoutReserved own
@@ -219,11 +217,8 @@ unfolding sentFrom entriesWhere
 from-without zero place [] given k h = refl
 from-without zero place (v ∷ own) given k h = absurd (omega arith)
 from-without (suc left) place own given k h =
-    go (givenFor given place) refl own h (λ rest. from-without left (suc place) rest given (subst (λ (n : ℕ). eachGivenKeepsRule n given ≡ true) same k))
+    go (givenFor given place) refl own h (λ rest. from-without left (suc place) rest given (next-left left place given k))
   where
-    same : place + suc left ≡ suc place + left
-    same = omega arith
-
     go : (o : Option ℕ) → givenFor given place ≡ o → (own : List ℕ) → length own + fromPlace place given ≡ suc left →
         ((rest : List ℕ) → length rest + fromPlace (suc place) given ≡ left →
         withoutReserved (sentFrom left (suc place) rest given) ≡ withoutReserved rest) →
@@ -232,9 +227,10 @@ from-without (suc left) place own given k h =
         let one = from-some _ given place r k e in
         let less = one .0 in
         rw (one .1) (ih own (omega arith))
+    -- own versions never run out early
     go none e [] h ih =
         let stays = from-none given place e in
-        let most = from-most left (suc place) given (subst (λ (n : ℕ). eachGivenKeepsRule n given ≡ true) same k) in
+        let most = from-most left (suc place) given (next-left left place given k) in
         absurd (omega arith)
     go none e (v ∷ own) h ih =
         let stays = from-none given place e in

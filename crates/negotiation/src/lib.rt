@@ -161,7 +161,8 @@ fn judge_offer(
 ) -> Written
     requires { ⌜ ids ≤ maxConnectionID + maxConnectionID ⌝ }
     ensures { λ r. ⌜ writtenReply r ≡ judged Writing
-        (offerRules version (countOf ids (sentEntries (now (offered .entry)) (now (reserved .entry)))) (now (offered .entry)) (now (reserved .entry)) «unused_bits» room)
+        (offerRules version (countOf ids (sentEntries (now (offered .entry)) (now (reserved .entry))))
+        (now (offered .entry)) (now (reserved .entry)) «unused_bits» room)
         (answered (countOf ids (sentEntries (now (offered .entry)) (now (reserved .entry))))) ⌝ }
 {
     if !is_table(offered) {
@@ -200,7 +201,9 @@ fn put_packet(
     requires lengths { ⌜ Lengths (now received) destination source ⌝ }
     requires bits { ⌜ «unused_bits» ≤ maxUnusedBits ⌝ }
     requires room { ⌜ packetLength (now received) (listSent (now offered) (now reserved)) ≤ length (now buffer) ⌝ }
-    ensures { λ _. ⌜ now (buffer .exit) ≡ leaves (answered (packetFor (now (received .entry)) (listSent (now (offered .entry)) (now (reserved .entry))) «unused_bits»)) (now (buffer .entry)) ⌝ }
+    ensures { λ _. ⌜ now (buffer .exit) ≡ leaves
+        (answered (packetFor (now (received .entry)) (listSent (now (offered .entry)) (now (reserved .entry))) «unused_bits»))
+        (now (buffer .entry)) ⌝ }
 {
     let source_start = 7 + destination;
     let second_id = 6 + source;
