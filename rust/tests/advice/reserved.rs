@@ -211,3 +211,25 @@ fn reserved_numbers_in_tables() {
         Err(WriteRefusal::BadOfferedTable)
     );
 }
+
+/// The same: a server's Available list of a reserved number alone is not empty. The client that was
+/// led to 10 completes, where it answers 74 to no list at all. Beside the versions it changes nothing.
+#[test]
+fn reserved_numbers_alone_in_a_servers_list() {
+    let ends = [&[][..], &[A], &[10, 13, 14, A], &[10, 13, 14]].map(|available| {
+        let mut attempt = Attempt::start(&[14, 12, 10], &[], 12, &DESTINATION, &SOURCE).unwrap();
+        attempt
+            .datagram(&negotiation(12, &[10, 13]).unwrap())
+            .unwrap();
+        attempt.outcome(10, Some(&information(Sender::Server, 10, available)))
+    });
+    assert_eq!(
+        ends,
+        [
+            Err(Refusal::AvailableEmpty),
+            Ok(10),
+            Err(Refusal::Downgraded),
+            Err(Refusal::Downgraded)
+        ]
+    );
+}
