@@ -14,7 +14,7 @@ use Rattle.refusals.specs.declared.Call.the-variants.{Writing}
 use Rattle.refusals.proofs.Rules.{both-true, answer-given}
 use Rattle.versions.specs.Reserved.{withoutReserved}
 use Rattle.versions.specs.Table.{elem}
-use Rattle.versions.specs.Version.{reserved}
+use Rattle.versions.proofs.WithoutReserved.{zero-unreserved}
 use Rattle.lists.specs.Wire.{allBelow, versionBytes}
 use Rattle.information.specs.Information.{informationBytes, informationLength, informationToWrite}
 use Rattle.information.specs.Laws.{ReadAs}
@@ -48,10 +48,6 @@ sent chosen own given room bytes h =
       rule = not-false _ (not-true _ (kept .0));
       is = p .1;
     }
-
-zero-unreserved : reserved 0 ≡ false
-unfolding reserved
-zero-unreserved = refl
 
 -- What the writer of information asks of a client's, of the list as sent with numbers that keep their rule
 module _ (a : Attempt) (given : List (List ℕ)) (r : Reachable a)

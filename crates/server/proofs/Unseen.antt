@@ -13,7 +13,7 @@ use Rattle.refusals.specs.Rule.{Rule, Rule._when_}
 use Rattle.versions.specs.Reserved.{withoutReserved}
 use Rattle.versions.specs.Table.{elem, tableKeepsRule}
 use Rattle.versions.specs.Version.{reserved}
-use Rattle.versions.proofs.WithoutReserved.{same-without, table-not-reserved}
+use Rattle.versions.proofs.WithoutReserved.{zero-unreserved, same-without, table-not-reserved}
 use Rattle.lists.specs.Wire.{allBelow, versionBytes}
 use Rattle.lists.proofs.Entries.{number-bytesOf, entries-listBytes}
 use Rattle.information.specs.Information.{chosenOf, availableOf, informationBytes}
@@ -35,10 +35,6 @@ pub record DifferByReserved (one other : List ℕ) : Type 0 where
   pub same-chosen : chosenOf one ≡ chosenOf other
   pub chosen-unreserved : reserved (chosenOf one) ≡ false
   pub same-available : withoutReserved (availableOf one) ≡ withoutReserved (availableOf other)
-
-zero-unreserved : reserved 0 ≡ false
-unfolding reserved
-zero-unreserved = refl
 
 -- The tests that the reader's rules of whole bytes come to
 abbrev wholeRules : Bool → Bool → Bool → Bool → List Rule

@@ -13,6 +13,11 @@ use Rattle.versions.specs.Words.{keepIf, entriesWhere}
 use Rattle.versions.proofs.Lists.{table-entries}
 use Rattle.versions.proofs.Members.{elem-where}
 
+-- 0 is none
+pub zero-unreserved : reserved 0 ≡ false
+unfolding reserved
+zero-unreserved = refl
+
 -- Whether a version that is not reserved occurs
 pub elem-without : (v : ℕ) (vs : List ℕ) → reserved v ≡ false → elem v (withoutReserved vs) ≡ elem v vs
 elem-without v vs h = elem-where notReserved vs v ∙ ap (λ (b : Bool). not b && elem v vs) h
