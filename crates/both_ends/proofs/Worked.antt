@@ -23,7 +23,7 @@ use Rattle.attempt.specs.Attempt.{padded, ownOf}
 use Rattle.attempt.specs.Events.{run, Reachable}
 use Rattle.attempt.specs.OwnList.{mayBeAnswered, wordOf, wordFor, rowsFor}
 use Rattle.attempt.specs.Start.{Input, inputOf, startOf, opened}
-use Rattle.attempt.specs.Step.{After, Effect.acts, same, onDatagram, stepOf}
+use Rattle.attempt.specs.Step.{Effect.acts, same, onDatagram, stepOf}
 use Rattle.attempt.specs.declared.Attempt.{Attempt}
 use Rattle.attempt.specs.declared.Event.the-variants.{Datagram}
 use Rattle.client_information.proofs.Worked as client

@@ -1,7 +1,7 @@
 -- The client's call (document 02, C-18), computed: the client of P10 that attempts 3, whose own list is 3, 4; 37 and 47 on
 -- either side of their borders. It meets the premises of the theorems on what is read of it.
 use Prim.Native.Nat.{ℕ}
-use mathlib.Core.List.{List, [], _∷_, _++_}
+use mathlib.Core.List.{List, [], _∷_}
 use mathlib.Core.Path.{_≡_, refl}
 use native.Mathlib.Omega.{arith}
 use Rattle.refusals.specs.Reply.{Reply, Reply.answered, refuse}
