@@ -60,7 +60,7 @@ module _ (t l : List ℕ) (keeps : tableKeepsRule t ≡ true) (within : length l
 -- 41: the table of an accepted start keeps its rule (`start-keeps`), and no event changes it
 pub attempt-keeps : (a : Attempt) → Reachable a → tableKeepsRule (tableOf a) ≡ true
 attempt-keeps a r =
-    every-attempt Kept kept (λ x h. rw (opened-reads x .table) (start-keeps x h)) a r
+    every-attempt Kept (λ a j k. k) kept (λ x h. rw (opened-reads x .table) (start-keeps x h)) a r
   where
     Kept : Attempt → Type 0
     Kept b = tableKeepsRule (tableOf b) ≡ true

@@ -6,9 +6,10 @@ use mathlib.Core.Bool.{Bool, true, false, cond, not, _&&_, and-false, or-true, f
 use mathlib.Core.List.{List, [], _∷_}
 use mathlib.Core.Option.{Option, Option.none, Option.some}
 use mathlib.Core.Path.{_≡_, refl, sym, subst, _∙_}
+use native.Mathlib.Omega.{arith}
 use lib.Dec.{leb, ltb}
 use lib.ListN.{length}
-use borrow.Author.Tests.{ltb-false, not-false, le-leb}
+use borrow.Author.Tests.{ltb-true, ltb-false, not-false, le-leb}
 use Rattle.refusals.specs.Rule.{Rule, Rule._when_, lowest}
 use Rattle.refusals.proofs.Rules.{both-true, lowest-any}
 use Rattle.choosing.specs.Choice.{preferred}
@@ -17,11 +18,13 @@ use Rattle.versions.specs.Limits.{maxTable}
 use Rattle.versions.specs.Table.{elem, tableKeepsRule}
 use Rattle.versions.proofs.Lists.{table-counts}
 use Rattle.invariants.specs.Header.{listed}
+use Rattle.journal.specs.declared.Journal.{Journal}
 use Rattle.information.specs.declared.Presence.{Presence}
 use Rattle.information.specs.declared.Presence.the-variants.{Missing, Given}
-use Rattle.attempt.specs.Attempt.{tableOf, isOpen, put}
-use Rattle.attempt.specs.Events.{Handed, run, Reachable}
-use Rattle.attempt.specs.Limits.{maxID}
+use Rattle.attempt.specs.Attempt.{tableOf, isOpen, put, withJournal}
+use Rattle.attempt.specs.Events.{Handed, journaledRun, Reachable}
+use Rattle.attempt.specs.Journaled.{journaledStep}
+use Rattle.attempt.specs.Limits.{maxID, notARecord}
 use Rattle.attempt.specs.Start.{Input, isAccepted, startOf, opened, blank}
 use Rattle.attempt.specs.Step.{After, Effect.notes, actOn, after, closed, completed, unchanged, datagramRules, missingRules, informationRules}
 use Rattle.attempt.specs.Step.{onDatagram, onOutcome, onProcessed, stepOf, countsFit, couldBeAttempt}
@@ -31,26 +34,34 @@ use Rattle.attempt.specs.declared.Event.the-variants.{Datagram, PacketPr
 use Rattle.attempt.proofs.Demand3.{start-accepted}
 use Rattle.attempt.proofs.Phases.{opened-reads}
 
--- The numbers of the rules are bytes
+-- The numbers of the rules pass a test: that they are bytes, and here below 255 too, the number outside document 01
 
-abbrev pub bytesOnly : List Rule → Bool
-bytesOnly [] = true
-bytesOnly ((n when b) ∷ rules) = leb n 255 && bytesOnly rules
+abbrev pub belowOutside : ℕ → Bool
+belowOutside n = ltb n notARecord
 
-lowest-byte : {B : Type 0} (refusal : ℕ → B) (other : B) (P : B → Type 0) → ((n : ℕ) → leb n 255 ≡ true → P (refusal n)) →
-    P other → (rules : List Rule) → bytesOnly rules ≡ true → P (lowest refusal rules other)
-lowest-byte refusal other P each last [] h = last
-lowest-byte refusal other P each last ((n when true) ∷ rules) h = each n (both-true (leb n 255) _ h .0)
-lowest-byte refusal other P each last ((n when false) ∷ rules) h =
-    lowest-byte refusal other P each last rules (both-true (leb n 255) _ h .1)
+abbrev pub numbersPass : List Rule → Bool
+numbersPass [] = true
+numbersPass ((n when b) ∷ rules) = belowOutside n && numbersPass rules
 
-missing-bytes : (acted : Bool) (a : Attempt) (u : ℕ) → bytesOnly (missingRules acted a u) ≡ true
-missing-bytes true a u = refl
-missing-bytes false a u = refl
+pub lowest-passing : {B : Type 0} (refusal : ℕ → B) (other : B) (P : B → Type 0) →
+    ((n : ℕ) → belowOutside n ≡ true → P (refusal n)) → P other → (rules : List Rule) → numbersPass rules ≡ true →
+    P (lowest refusal rules other)
+lowest-passing refusal other P each last [] h = last
+lowest-passing refusal other P each last ((n when true) ∷ rules) h = each n (both-true (belowOutside n) _ h .0)
+lowest-passing refusal other P each last ((n when false) ∷ rules) h =
+    lowest-passing refusal other P each last rules (both-true (belowOutside n) _ h .1)
 
-outcome-bytes : (a : Attempt) (u : ℕ) (p : Presence) (bytes : List ℕ) → bytesOnly (informationRules a u p bytes) ≡ true
-outcome-bytes a u Missing bytes = missing-bytes (a .acted) a u
-outcome-bytes a u Given bytes = refl
+missing-passes : (acted : Bool) (a : Attempt) (u : ℕ) → numbersPass (missingRules acted a u) ≡ true
+missing-passes true a u = refl
+missing-passes false a u = refl
+
+pub outcome-passes : (a : Attempt) (u : ℕ) (p : Presence) (bytes : List ℕ) → numbersPass (informationRules a u p bytes) ≡ true
+outcome-passes a u Missing bytes = missing-passes (a .acted) a u
+outcome-passes a u Given bytes = refl
+
+-- such a number is a byte
+below-byte : (n : ℕ) → belowOutside n ≡ true → leb n 255 ≡ true
+below-byte n h = let l = ltb-true n notARecord h in le-leb n 255 (omega (arith, l))
 
 -- What holds of a record, and of it after each thing that an event may do to it
 pub record Keeps (P : Attempt → Type 0) (a : Attempt) : Type 0 where
@@ -70,9 +81,10 @@ module _ (P : Attempt → Type 0) (a : Attempt) (k : Keeps P a) where
   acted-keeps list (some v) e = k .acts v (preferred-held (tableOf a) list v e .0)
 
   -- an outcome, on an open attempt and on an ended one
-  outcome-keeps : (b : Bool) (rules : List Rule) (u : ℕ) → bytesOnly rules ≡ true →
+  outcome-keeps : (b : Bool) (rules : List Rule) (u : ℕ) → numbersPass rules ≡ true →
       Held (cond b (lowest (closed a) rules (completed a u)) (unchanged a 62))
-  outcome-keeps true rules u h = lowest-byte (closed a) (completed a u) Held (k .closes) (k .completes u) rules h
+  outcome-keeps true rules u h =
+      lowest-passing (closed a) (completed a u) Held (λ n below. k .closes n (below-byte n below)) (k .completes u) rules h
   outcome-keeps false rules u h = k .stays 62
 
   pub step-keeps : (e : Event) (bytes : List ℕ) → Held (stepOf a e bytes)
@@ -85,15 +97,17 @@ module _ (P : Attempt → Type 0) (a : Attempt) (k : Keeps P a) where
       lowest-any (unchanged a) (after (put a (a .attempted) (a .acted) true (a .end)) notes) Held (k .stays) (k .notes)
       ((62 when not (isOpen (a .end))) ∷ [])
   step-keeps (Outcome u p) bytes =
-      outcome-keeps (isOpen (a .end)) (informationRules a u p bytes) u (outcome-bytes a u p bytes)
+      outcome-keeps (isOpen (a .end)) (informationRules a u p bytes) u (outcome-passes a u p bytes)
 
--- and what also holds of each accepted start's record holds of every attempt
-module _ (P : Attempt → Type 0) (keeps : (a : Attempt) → P a → Keeps P a) where
-  run-keeps : (a : Attempt) (es : List Handed) → P a → P (run a es)
-  unfolding run
+-- and what also holds of each accepted start's record, and does not read the journal, holds of every attempt
+module _ (P : Attempt → Type 0) (unread : (a : Attempt) (j : Journal) → P a → P (withJournal a j))
+    (keeps : (a : Attempt) → P a → Keeps P a) where
+  run-keeps : (a : Attempt) (es : List Handed) → P a → P (journaledRun a es)
+  unfolding journaledRun journaledStep
   run-keeps a [] holds = holds
   run-keeps a (e ∷ es) holds =
-      run-keeps (stepOf a (e .event) (e .bytes) .attempt) es (step-keeps P a (keeps a holds) (e .event) (e .bytes))
+      run-keeps (journaledStep a (e .event) (e .bytes) .attempt) es
+      (unread (stepOf a (e .event) (e .bytes) .attempt) _ (step-keeps P a (keeps a holds) (e .event) (e .bytes)))
 
   pub every-attempt : ((x : Input) → isAccepted x ≡ true → P (opened x)) → (a : Attempt) → Reachable a → P a
   every-attempt opens a r =
@@ -144,7 +158,7 @@ pub start-passes : (x : Input) → isAccepted x ≡ true → Passing (startOf x 
 start-passes x h = subst Passing (sym (start-accepted x h)) (opened-passes x h)
 
 pub reachable-passes : {a : Attempt} → Reachable a → Passing a
-reachable-passes {a} r = every-attempt Passing passing-kept opened-passes a r
+reachable-passes {a} r = every-attempt Passing (λ a j p. p) passing-kept opened-passes a r
 
 -- No event's premise holds of the blank record of a refused start, and none is judged on it
 pub blank-refused : couldBeAttempt blank ≡ false

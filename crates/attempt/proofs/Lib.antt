@@ -4,6 +4,7 @@ pub mod Chosen
 pub mod Completing
 pub mod Demand3
 pub mod Injective
+pub mod Journaled
 pub mod Keeps
 pub mod OwnLists
 pub mod Padded

@@ -66,7 +66,7 @@ known-kept : (a : Attempt) → Known a → Keeps Known a
 known-kept a k = record { stays = λ n. k; acts = λ v held. k; notes = k; closes = λ n h. k; completes = λ v. k }
 
 known : (a : Attempt) → Reachable a → Known a
-known a r = every-attempt Known known-kept opened-known a r
+known a r = every-attempt Known (λ a j k. k) known-kept opened-known a r
 
 -- An entry of the own list is an entry of the table
 own-in-table : (a : Attempt) (v : ℕ) → elem v (ownAsAnswered a) ≡ true → elem v (tableOf a) ≡ true

@@ -3,6 +3,7 @@ use Prim.Native.Nat.{ℕ}
 use mathlib.Core.Bool.{Bool, true, false}
 use mathlib.Core.List.{List, _++_}
 use lib.ListN.{length, take, drop, replicate}
+use Rattle.journal.specs.declared.Journal.{Journal}
 use Rattle.versions.specs.Limits.{maxTable}
 use Rattle.attempt.specs.AsSent.{listAsSent}
 use Rattle.attempt.specs.OwnList.{ownIn}
@@ -67,7 +68,7 @@ isCompleted Open = false
 isCompleted (Completed v) = true
 isCompleted (Closed n) = false
 
--- The record with the fields that an event may change; every other field stays
+-- The record with the fields that document 01 lets an event change; every other field stays
 abbrev pub put : Attempt → ℕ → Bool → Bool → End → Attempt
 put a attempted′ acted′ heard′ end′ =
     record {
@@ -83,6 +84,26 @@ put a attempted′ acted′ heard′ end′ =
       acted = acted′;
       heard = heard′;
       end = end′;
+      journal = a .journal;
+    }
+
+-- The record with another journal; every other field stays
+abbrev pub withJournal : Attempt → Journal → Attempt
+withJournal a j =
+    record {
+      table = a .table;
+      «table_len» = a .«table_len»;
+      rows = a .rows;
+      destination = a .destination;
+      «destination_len» = a .«destination_len»;
+      source = a .source;
+      «source_len» = a .«source_len»;
+      original = a .original;
+      attempted = a .attempted;
+      acted = a .acted;
+      heard = a .heard;
+      end = a .end;
+      journal = j;
     }
 
 -- "An ending changes the end mark alone."

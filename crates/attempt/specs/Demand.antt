@@ -15,7 +15,7 @@ use Rattle.information.specs.Information.{chosenOf, availableOf, formRules}
 use Rattle.information.specs.declared.Presence.{Presence}
 use Rattle.information.specs.declared.Presence.the-variants.{Missing, Given}
 use Rattle.attempt.specs.Attempt.{isCompleted}
-use Rattle.attempt.specs.Events.{Handed, run}
+use Rattle.attempt.specs.Events.{Handed, run, journaledRun}
 use Rattle.attempt.specs.Start.{Input, ourList, isAccepted, startOf}
 use Rattle.attempt.specs.Step.{otherConnection}
 use Rattle.attempt.specs.declared.Event.{Event}
@@ -110,7 +110,12 @@ pub record CompletedBy (completed? : Bool) (available : List ℕ) (x : Input) (e
   pub against : information .available ≡ available
   pub holdsVersionInUse : elem (handshake .inUse) available ≡ true
 
--- The same by the record that the steps hand back
+-- The same by the record that document 01's steps hand back
 abbrev pub CompletedAgainst : List ℕ → Input → List Handed → ℕ → Type 0
 CompletedAgainst available x events attempted =
     CompletedBy (isCompleted (run (startOf x .attempt) events .end)) available x events attempted
+
+-- The same by the record that the steps hand back which note each answer (document 02, C-20)
+abbrev pub JournaledCompletedAgainst : List ℕ → Input → List Handed → ℕ → Type 0
+JournaledCompletedAgainst available x events attempted =
+    CompletedBy (isCompleted (journaledRun (startOf x .attempt) events .end)) available x events attempted

@@ -2,6 +2,7 @@ pub mod AsSent
 pub mod Attempt
 pub mod Demand
 pub mod Events
+pub mod Journaled
 pub mod Limits
 pub mod OwnList
 pub mod Start

@@ -8,6 +8,7 @@ use lib.ListN.{length, replicate}
 use Rattle.refusals.specs.Reply.{Reply, Reply.answered, refuse}
 use Rattle.refusals.specs.Rule.{Rule, Rule._when_, lowest, clear}
 use Rattle.refusals.specs.declared.Call.the-variants.{Reading}
+use Rattle.journal.specs.Journals.{journalOf}
 use Rattle.versions.specs.Limits.{maxTable}
 use Rattle.versions.specs.Pairs.{pairsKeepRule}
 use Rattle.versions.specs.Table.{elem, tableKeepsRule}
@@ -68,6 +69,7 @@ opened x =
       acted = false;
       heard = false;
       end = Open;
+      journal = journalOf [];
     }
 
 -- What is read of the start in a record: that of the start, and, as no event changes it, each one after it
@@ -94,6 +96,7 @@ blank =
       acted = false;
       heard = false;
       end = Closed 0;
+      journal = journalOf [];
     }
 
 -- The answer has no value beside the record

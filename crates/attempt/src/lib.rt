@@ -3,6 +3,7 @@
 pub mod own; // the own list of an attempt
 
 use information::Presence;
+use journal::Journal;
 use refusals::Refusal;
 use versions::MAX_TABLE;
 
@@ -45,6 +46,8 @@ pub struct Attempt {
     // A genuine packet other than Version Negotiation was processed (document 01's "heard").
     pub heard: bool,
     pub end: End,
+    // The last event answers and the count of all events (document 02, C-20). No event reads it, and every event changes it.
+    pub journal: Journal,
 }
 
 // What a start answers beside the record: a refusal (41, 43, 44, 45), or that the attempt is open.

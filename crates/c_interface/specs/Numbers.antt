@@ -5,7 +5,7 @@ use mathlib.Core.List.{List, [], _∷_}
 use mathlib.Core.Option.{Option, Option.none, Option.some}
 use lib.Dec.{eqb}
 use Rattle.refusals.specs.Close.{closeOf}
-use Rattle.refusals.specs.Reply.{Reply, Reply.refused, Reply.answered}
+use Rattle.refusals.specs.Reply.{Reply, Reply.refused, Reply.answered, refusalOf}
 use Rattle.refusals.specs.declared.Call.{Call}
 use Rattle.refusals.specs.declared.Call.the-variants.{Reading, Writing}
 use Rattle.refusals.specs.declared.Close.{Close}
@@ -18,7 +18,7 @@ use Rattle.information.specs.declared.Sender.{Sender}
 use Rattle.information.specs.declared.Sender.the-variants.{Client, Server}
 use Rattle.server.specs.FirstFlight.{Act, Act.negotiate, Act.use-version, decide}
 use Rattle.attempt.specs.Attempt.{ownOf}
-use Rattle.c_record.specs.Numbers.{notValid, refusalOf}
+use Rattle.c_record.specs.Numbers.{notValid}
 use Rattle.c_record.specs.Records.{isRecord, attemptOf}
 use Rattle.c_record.specs.declared.Record.{Record}
 

@@ -16,6 +16,8 @@ use c_record::attempts::put_own;
 use c_record::attempts::start_record;
 use c_record::attempts::write_record_information;
 use c_record::events::step_record;
+use journal::Journal;
+use journal::PLACES;
 use refusals::Written;
 use versions::MAX_TABLE;
 
@@ -138,7 +140,10 @@ pub extern "C" fn qv_known_record() -> Record
         heard: 0x47,
         end_mark: 0x48,
         end_value: 0x49,
-        unused: 0x4a,
+        journal: Journal {
+            answers: [0x51; PLACES],
+            count: 0x52,
+        },
     }
 }
 

@@ -5,7 +5,7 @@ use mathlib.Core.List.{List, []}
 use mathlib.Core.Option.{Option, Option.none, Option.some}
 use lib.Dec.{eqb, leb}
 use lib.ListN.{replicate}
-use Rattle.refusals.specs.Reply.{Reply, refuse}
+use Rattle.refusals.specs.Reply.{Reply, refuse, refusalOf}
 use Rattle.refusals.specs.declared.Call.the-variants.{Writing}
 use Rattle.versions.specs.Limits.{maxTable}
 use Rattle.information.specs.declared.Presence.the-variants.{Missing, Given}
@@ -19,7 +19,7 @@ use Rattle.attempt.specs.declared.End.the-variants.{Open, Completed, Closed}
 use Rattle.attempt.specs.declared.Event.{Event}
 use Rattle.attempt.specs.declared.Event.the-variants.{Datagram, PacketProcessed, Outcome}
 use Rattle.client_information.specs.ClientInformation.{clientInformation}
-use Rattle.c_record.specs.Numbers.{flag, notValid, refusalOf}
+use Rattle.c_record.specs.Numbers.{flag, notValid}
 use Rattle.c_record.specs.declared.Record.{Record}
 use Rattle.c_record.specs.declared.RecordAndRefusal.{RecordAndRefusal}
 

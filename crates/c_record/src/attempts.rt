@@ -2,10 +2,10 @@
 ghost use mathlib.Core.Bool.{false};
 ghost use mathlib.Core.Path.{_≡_};
 ghost use lib.ListN.{length};
+ghost use Rattle.refusals.specs.Reply.{refusalOf};
 ghost use Rattle.refusals.specs.Written.{writtenReply, counted, leaves};
 ghost use Rattle.attempt.specs.Attempt.{over};
 ghost use Rattle.attempt.specs.Start.{inputOf, startReply};
-ghost use Rattle.c_record.specs.Numbers.{refusalOf};
 ghost use Rattle.c_record.specs.Records.{isRecord, startRecord, ownRecord, recordInformation, shownLeft};
 use crate::OwnCount;
 use crate::Record;

@@ -11,8 +11,8 @@ use attempt::MAX_ID;
 use client_verdict::could_be_attempt;
 use versions::MAX_TABLE;
 
-// Whether what is judged of a record is as an attempt has it: flags, end mark, unused word, counts, and that the
-// attempted version is in the table. It refuses nothing.
+// Whether what is judged of a record is as an attempt has it: flags, end mark, counts, and that the attempted version is
+// in the table. It refuses nothing.
 pub fn is_record(held: Record) -> bool
     ensures { λ r. ⌜ r ≡ isRecord held ⌝ }
 {
@@ -22,7 +22,7 @@ pub fn is_record(held: Record) -> bool
     could_be_attempt(decode(held))
 }
 
-// Whether flags, end mark and unused word are as an attempt has them.
+// Whether flags and end mark are as an attempt has them.
 pub(crate) fn marks_fit(held: Record) -> bool
     ensures { λ r. ⌜ r ≡ marksFit held ⌝ }
 {
@@ -32,10 +32,7 @@ pub(crate) fn marks_fit(held: Record) -> bool
     if 1 < held.heard {
         return false;
     }
-    if !mark_fits(held.end_mark, held.end_value) {
-        return false;
-    }
-    held.unused == 0
+    mark_fits(held.end_mark, held.end_value)
 }
 
 // Whether the counts are within their arrays.
@@ -88,6 +85,7 @@ pub(crate) fn decode(held: Record) -> Attempt
         acted: held.acted == 1,
         heard: held.heard == 1,
         end,
+        journal: held.journal,
     }
 }
 
@@ -132,7 +130,7 @@ pub(crate) fn encode(attempt: Attempt) -> Record
         heard,
         end_mark: mark,
         end_value: value,
-        unused: 0,
+        journal: attempt.journal,
     }
 }
 

@@ -13,6 +13,8 @@ use attempt::NOT_A_RECORD;
 use client_step::judge;
 use client_verdict::Verdict;
 use client_verdict::record::attempted_after;
+use client_verdict::record::journal_after;
+use client_verdict::record::number_of;
 use information::Presence;
 
 // One event: the record that it leaves, and the number of its refusal, 0 for none. `kind` is 0 for a datagram, 1 for a
@@ -29,14 +31,16 @@ pub fn step_record(held: Record, kind: u32, value: u32, bytes: &[u8]) -> RecordA
     let heard = heard_after(held.heard, verdict);
     let mark = mark_after(held.end_mark, verdict);
     let number = value_after(held.end_value, verdict);
-    let refusal = number_of(verdict);
-    // From here on no test: the compiler then stores the five fields, and copies the record nowhere.
+    let journal = journal_after(held.journal, verdict);
+    let refusal = number_of(verdict) as u32;
+    // From here on no test: the compiler then stores the fields that changed, and copies the record nowhere.
     let mut left = held;
     left.attempted = attempted;
     left.acted = acted;
     left.heard = heard;
     left.end_mark = mark;
     left.end_value = number;
+    left.journal = journal;
     RecordAndRefusal {
         attempt: left,
         refusal,
@@ -126,18 +130,5 @@ fn value_after(number: u32, verdict: Verdict) -> u32
         Verdict::Acted(_) => number,
         Verdict::Noted => number,
         Verdict::Completed(version) => version,
-    }
-}
-
-// The number of a verdict's refusal, 0 for none.
-fn number_of(verdict: Verdict) -> u32
-    ensures { λ r. ⌜ r ≡ numberOf verdict ⌝ }
-{
-    match verdict {
-        Verdict::Unchanged(refusal) => refusal.0 as u32,
-        Verdict::Closed(refusal) => refusal.0 as u32,
-        Verdict::Acted(_) => 0,
-        Verdict::Noted => 0,
-        Verdict::Completed(_) => 0,
     }
 }

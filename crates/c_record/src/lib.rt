@@ -5,6 +5,7 @@ pub mod coding; // the record of an attempt, and back
 pub mod events; // the events
 
 use attempt::MAX_ID;
+use journal::Journal;
 use versions::MAX_TABLE;
 
 // The number for what no caller may hand over, outside document 01's table.
@@ -31,8 +32,8 @@ pub struct Record {
     pub end_mark: u32,
     // 0; the version in use; document 01's number.
     pub end_value: u32,
-    // 0.
-    pub unused: u32,
+    // The last event answers and the count of all events.
+    pub journal: Journal,
 }
 
 // A record with the number of a refusal, 0 for none.

@@ -22,6 +22,7 @@ use attempt::End;
 use attempt::MAX_ID;
 use attempt::StartAnswer;
 use attempt::Started;
+use journal::empty;
 use refusals::Refusal;
 use versions::MAX_TABLE;
 use versions::pairs::are_pairs;
@@ -98,6 +99,7 @@ fn refused(refusal: Refusal) -> Started
 fn blank_attempt() -> Attempt
     ensures { λ r. ⌜ r ≡ blank ⌝ }
 {
+    let journal = empty();
     Attempt {
         table: [0u32; MAX_TABLE],
         table_len: 0,
@@ -111,6 +113,7 @@ fn blank_attempt() -> Attempt
         acted: false,
         heard: false,
         end: End::Closed(0),
+        journal,
     }
 }
 
@@ -131,6 +134,7 @@ fn open(
     let rows = rows_for(table, pairs, barred);
     let destination_places = padded_id(destination);
     let source_places = padded_id(source);
+    let journal = empty();
     let attempt = Attempt {
         table: places,
         table_len: table.len(),
@@ -144,6 +148,7 @@ fn open(
         acted: false,
         heard: false,
         end: End::Open,
+        journal,
     };
     Started {
         attempt,

@@ -3,7 +3,8 @@
 ghost use mathlib.Core.List.{[]};
 ghost use mathlib.Core.Path.{_≡_};
 ghost use Rattle.attempt.specs.Events.{Reachable};
-ghost use Rattle.attempt.specs.Step.{shown, stepOf, stepOfAny};
+ghost use Rattle.attempt.specs.Journaled.{journaledStep, journaledStepOfAny};
+ghost use Rattle.attempt.specs.Step.{shown, stepOfAny};
 ghost use Rattle.attempt.specs.declared.Event.the-variants.{PacketProcessed};
 ghost use Rattle.client_verdict.specs.Verdicts.{applied};
 use attempt::Attempt;
@@ -23,24 +24,26 @@ use refusals::Refusal;
 // a datagram: 61, 62, 63, 64, which leave the record unchanged; 65, which ends the attempt;
 // a processed packet: 62, unchanged;
 // an outcome: 62, unchanged; 31 to 35 and 71 to 75, which end the attempt. An ending changes the end mark alone.
+// "Unchanged" and "alone" leave the journal out: the answer of every event is noted there.
 pub fn step(attempt: Attempt, event: Event, bytes: &[u8]) -> Stepped
     requires { ⌜ Reachable attempt ⌝ }
-    ensures shown { λ r. ⌜ shown r ≡ stepOf attempt event (now (bytes .entry)) ⌝ }
+    ensures shown { λ r. ⌜ shown r ≡ journaledStep attempt event (now (bytes .entry)) ⌝ }
     ensures reachable { λ r. ⌜ Reachable (r .attempt) ⌝ }
 {
     step_any(attempt, event, bytes)
 }
 
-// The step for any record value. One that could not be an attempt's is refused with NOT_A_RECORD and left as found.
+// The step for any record value. One that could not be an attempt's is refused with NOT_A_RECORD and left as found, its
+// journal too.
 // Refusals else as `step`'s.
 pub fn step_any(attempt: Attempt, event: Event, bytes: &[u8]) -> Stepped
-    ensures { λ r. ⌜ shown r ≡ stepOfAny attempt event (now (bytes .entry)) ⌝ }
+    ensures { λ r. ⌜ shown r ≡ journaledStepOfAny attempt event (now (bytes .entry)) ⌝ }
 {
     let verdict = judge(attempt, event, bytes);
     apply(attempt, verdict)
 }
 
-// What an event does to any record value, before it is applied. Refusals as `step_any`'s.
+// What an event does to any record value, before it is applied and noted. Refusals as `step_any`'s.
 pub fn judge(attempt: Attempt, event: Event, bytes: &[u8]) -> Verdict
     ensures { λ r. ⌜ applied attempt r ≡ stepOfAny attempt event (now (bytes .entry)) ⌝ }
 {

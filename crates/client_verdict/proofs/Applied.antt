@@ -1,14 +1,18 @@
 -- A verdict, applied: field by field, as the code does it; and that on an open attempt no two verdicts do the same.
 use Prim.Native.Nat.{ℕ}
-use mathlib.Core.Bool.{Bool, true, false}
+use mathlib.Core.Bool.{Bool, true, false, cond}
 use mathlib.Core.Path.{_≡_, refl, sym, ap, _∙_}
-use Rattle.refusals.specs.Reply.{Reply, Reply.refused, Reply.answered}
+use lib.Dec.{eqb}
+use Rattle.refusals.specs.Reply.{Reply, Reply.refused, Reply.answered, refusalOf}
 use Rattle.refusals.proofs.Injective.{numbered}
-use Rattle.attempt.specs.Attempt.{isOpen, put}
+use Rattle.journal.specs.Journals.{noteOf}
+use Rattle.attempt.specs.Attempt.{isOpen, put, withJournal}
+use Rattle.attempt.specs.Journaled.{journaled, journaledAny}
+use Rattle.attempt.specs.Limits.{notARecord}
 use Rattle.attempt.specs.Step.{After, Effect, Effect.acts, Effect.notes, Effect.completes}
 use Rattle.attempt.specs.declared.Attempt.{Attempt}
 use Rattle.attempt.specs.declared.End.the-variants.{Open}
-use Rattle.client_verdict.specs.Verdicts.{applied, attemptedAfter, actedAfter, heardAfter, endAfter, replyOf}
+use Rattle.client_verdict.specs.Verdicts.{applied, journalAfter, attemptedAfter, actedAfter, heardAfter, endAfter, replyOf}
 use Rattle.client_verdict.specs.declared.Verdict.{Verdict}
 use Rattle.client_verdict.specs.declared.Verdict.the-variants.{Unchanged, Closed, Acted, Noted, Completed}
 
@@ -22,6 +26,24 @@ applied-fields a (Closed r) = refl
 applied-fields a (Acted v) = refl
 applied-fields a Noted = refl
 applied-fields a (Completed v) = refl
+
+-- And with its answer noted, as the code does it: the journal of what the verdict left is the one that was there
+pub journaled-fields : (a : Attempt) (v : Verdict) →
+    record { attempt = withJournal (changedFields a v) (journalAfter (a .journal) v); reply = replyOf v } ≡ journaledAny (applied a v)
+journaled-fields a v =
+    go (eqb (refusalOf (replyOf v)) notARecord) ∙ ap journaledAny (applied-fields a v)
+  where
+    left : After
+    left = record { attempt = changedFields a v; reply = replyOf v }
+
+    go : (b : Bool) →
+        record {
+          attempt = withJournal (changedFields a v) (cond b (a .journal) (noteOf (a .journal) (refusalOf (replyOf v))));
+          reply = replyOf v;
+        } ≡
+        cond b left (journaled left)
+    go true = refl
+    go false = refl
 
 -- The verdict on an open attempt, read from what it did
 

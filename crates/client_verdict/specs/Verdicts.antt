@@ -1,9 +1,13 @@
 -- What a verdict does to the record, and what it answers.
 use Prim.Native.Nat.{ℕ}
-use mathlib.Core.Bool.{Bool, true}
-use Rattle.refusals.specs.Reply.{Reply, Reply.answered, refuse}
+use mathlib.Core.Bool.{Bool, true, cond}
+use lib.Dec.{eqb}
+use Rattle.refusals.specs.Reply.{Reply, Reply.answered, refuse, refusalOf}
 use Rattle.refusals.specs.declared.Call.the-variants.{Reading}
+use Rattle.journal.specs.Journals.{noteOf}
+use Rattle.journal.specs.declared.Journal.{Journal}
 use Rattle.attempt.specs.Attempt.{put}
+use Rattle.attempt.specs.Limits.{notARecord}
 use Rattle.attempt.specs.Step.{After, unchanged, closed, completed, after, Effect, Effect.acts, Effect.notes, Effect.completes}
 use Rattle.attempt.specs.declared.Attempt.{Attempt}
 use Rattle.attempt.specs.declared.End.{End}
@@ -55,3 +59,7 @@ replyOf (Closed r) = refuse Reading (r .0)
 replyOf (Acted v) = answered (acts v)
 replyOf Noted = answered notes
 replyOf (Completed v) = answered (completes v)
+
+-- The journal after a verdict: its answer is noted, but for the number outside document 01
+abbrev pub journalAfter : Journal → Verdict → Journal
+journalAfter j v = let n = refusalOf (replyOf v) in cond (eqb n notARecord) j (noteOf j n)

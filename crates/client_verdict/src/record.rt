@@ -1,27 +1,33 @@
 // A verdict, applied to the record of an attempt.
 ghost use mathlib.Core.Path.{_≡_};
-ghost use Rattle.attempt.specs.Attempt.{put};
+ghost use Rattle.refusals.specs.Reply.{refusalOf};
+ghost use Rattle.attempt.specs.Attempt.{put, withJournal};
+ghost use Rattle.attempt.specs.Journaled.{journaledAny};
 ghost use Rattle.attempt.specs.Step.{shown, answerReply};
-ghost use Rattle.client_verdict.specs.Verdicts.{applied, attemptedAfter, actedAfter, heardAfter, endAfter, replyOf};
+ghost use Rattle.client_verdict.specs.Verdicts.{applied, journalAfter, attemptedAfter, actedAfter, heardAfter, endAfter, replyOf};
 use crate::Verdict;
 use attempt::Answer;
 use attempt::Attempt;
 use attempt::End;
+use attempt::NOT_A_RECORD;
 use attempt::Stepped;
+use journal::Journal;
+use journal::note;
 
 // The record and the answer after a verdict, on any record value. A verdict's refusal is the answer; it leaves the record
-// unchanged, or changes its end mark alone.
+// unchanged, or changes its end mark alone, but for the journal, in which each answer is noted. NOT_A_RECORD is not noted.
 pub fn apply(attempt: Attempt, verdict: Verdict) -> Stepped
-    ensures { λ r. ⌜ shown r ≡ applied attempt verdict ⌝ }
+    ensures { λ r. ⌜ shown r ≡ journaledAny (applied attempt verdict) ⌝ }
 {
     let before = attempt.end;
     let attempted = attempted_after(attempt.attempted, verdict);
     let acted = acted_after(attempt.acted, verdict);
     let heard = heard_after(attempt.heard, verdict);
     let end = end_after(before, verdict);
+    let journal = journal_after(attempt.journal, verdict);
     let answer = answer_of(verdict);
     // From here on no test.
-    let next = put(attempt, attempted, acted, heard, end);
+    let next = put(attempt, attempted, acted, heard, end, journal);
     Stepped {
         attempt: next,
         answer,
@@ -77,6 +83,30 @@ fn end_after(end: End, verdict: Verdict) -> End
     }
 }
 
+// The journal after a verdict: its answer is noted. NOT_A_RECORD is no answer of an event, and is not.
+pub fn journal_after(journal: Journal, verdict: Verdict) -> Journal
+    ensures { λ r. ⌜ r ≡ journalAfter journal verdict ⌝ }
+{
+    let number = number_of(verdict);
+    if number == NOT_A_RECORD.0 {
+        return journal;
+    }
+    note(journal, number)
+}
+
+// The number of a verdict's answer: that of its refusal, 0 for none. It refuses nothing.
+pub fn number_of(verdict: Verdict) -> u8
+    ensures { λ r. ⌜ r ≡ refusalOf (replyOf verdict) ⌝ }
+{
+    match verdict {
+        Verdict::Unchanged(refusal) => refusal.0,
+        Verdict::Closed(refusal) => refusal.0,
+        Verdict::Acted(_) => 0,
+        Verdict::Noted => 0,
+        Verdict::Completed(_) => 0,
+    }
+}
+
 fn answer_of(verdict: Verdict) -> Answer
     ensures { λ r. ⌜ answerReply r ≡ replyOf verdict ⌝ }
 {
@@ -89,9 +119,9 @@ fn answer_of(verdict: Verdict) -> Answer
     }
 }
 
-// The record with the fields that an event may change; every other field stays.
-fn put(attempt: Attempt, attempted: u32, acted: bool, heard: bool, end: End) -> Attempt
-    ensures { λ r. ⌜ r ≡ put attempt attempted acted heard end ⌝ }
+// The record with the fields that an event changes; every other field stays.
+fn put(attempt: Attempt, attempted: u32, acted: bool, heard: bool, end: End, journal: Journal) -> Attempt
+    ensures { λ r. ⌜ r ≡ withJournal (put attempt attempted acted heard end) journal ⌝ }
 {
     let table = attempt.table;
     let rows = attempt.rows;
@@ -110,5 +140,6 @@ fn put(attempt: Attempt, attempted: u32, acted: bool, heard: bool, end: End) -> 
         acted,
         heard,
         end,
+        journal,
     }
 }

@@ -9,6 +9,11 @@ pub data Reply (A : Type 0) : Type 0 where
   refused : ℕ → Close → Reply A
   answered : A → Reply A
 
+-- The number of an answer: that of its refusal, 0 where there is none
+abbrev pub refusalOf : {A : Type 0} → Reply A → ℕ
+refusalOf (refused n c) = n
+refusalOf (answered a) = 0
+
 -- The refusal of a number by a kind of call
 abbrev pub refuse : {A : Type 0} → Call → ℕ → Reply A
 refuse call n = refused n (closeOf n call)

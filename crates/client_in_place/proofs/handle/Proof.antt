@@ -42,7 +42,8 @@ use types.Run.{enter, alloc0, alloc1, params1, pass0, pass1, returns, forget, fr
 use types.Run.{assigns, of-opd, load, and-then, no-more, land, from, hop, fld, stop, look, look-raw, init, store-raw}
 use types.SemTy.{Body}
 use Rattle.attempt.specs.Events.{Reachable}
-use Rattle.attempt.specs.Step.{After, shown, stepOf}
+use Rattle.attempt.specs.Journaled.{journaledStep}
+use Rattle.attempt.specs.Step.{After, shown}
 use Rattle.attempt.specs.declared.Attempt.{Attempt}
 use Rattle.attempt.specs.declared.Event.{Event}
 use Rattle.attempt.specs.declared.Stepped.{Stepped}
@@ -162,7 +163,7 @@ module _ {M : Type 1} (𝓤 : URA M) (H : Heap 𝓤) (A : Atoms 𝓤) (mem″ : 
     Ensured r = ensured 𝓤 H A step.ended (step.clauses 𝓤 H A mem″ run) (κ′, tt) passed tt r
 
     abbrev Shown : Stepped → Type 0
-    Shown r = shown r ≡ stepOf was e (now bytes)
+    Shown r = shown r ≡ journaledStep was e (now bytes)
 
     abbrev Kept : Stepped → Type 0
     Kept r = Reachable (r .attempt)

@@ -17,14 +17,19 @@ padded-id-requires c κs = search needs
 padded-id-requires-2 : tie.Need-padded-id-requires-2
 padded-id-requires-2 c κs = search needs
 
+empty-requires : tie.Need-empty-requires
+empty-requires c κs = search needs
+
 returns : tie.Need-returns
 unfolding opened
 returns c =
+    let s = c .before in
     rw (
-      c .before .before .before .padded-table .ensures,
-      c .before .before .rows-for .ensures,
-      c .before .padded-id .ensures,
-      c .padded-id2 .ensures,
+      s .before .before .before .padded-table .ensures,
+      s .before .before .rows-for .ensures,
+      s .before .padded-id .ensures,
+      s .padded-id2 .ensures,
+      c .empty .ensures,
     )
 
 pub open-spec : {M : Type 1} → statement M
@@ -35,4 +40,5 @@ open-spec =
     rows-for-requires
     padded-id-requires
     padded-id-requires-2
+    empty-requires
     returns)

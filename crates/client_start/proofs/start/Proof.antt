@@ -9,7 +9,7 @@ use Rattle.refusals.specs.Reply.{Reply.answered, refuse}
 use Rattle.refusals.specs.Rule.{judged}
 use Rattle.refusals.specs.declared.Call.the-variants.{Reading}
 use Rattle.refusals.proofs.Rules.{lowest-clear, lowest-number, answered-clear}
-use Rattle.attempt.specs.Events.{Reachable, run}
+use Rattle.attempt.specs.Events.{Reachable, journaledRun}
 use Rattle.attempt.specs.Start.{Input, Nothing.nothing, inputOf, startRules, isAccepted, Start, startReply, shownStart, startOf, refusedStart, openedStart}
 use Rattle.attempt.specs.declared.Started.{Started}
 use Rattle.client_start.proofs.Accepted.{passed}
@@ -19,7 +19,7 @@ use Rattle.client_start.proofs.start.Tie as tie
 -- The equation tells that the record is reachable
 promised : (x : Input) (s : Started) (t : Start) → shownStart s ≡ t → t ≡ startOf x →
     (shownStart s ≡ startOf x) × (isAccepted x ≡ true → Reachable (s .attempt))
-unfolding run
+unfolding journaledRun
 promised x s t e f = (
   e ∙ f,
   λ h. record { input = x; accepted = h; events = []; reached = sym (ap (λ (u : Start). u .attempt) (e ∙ f)) },

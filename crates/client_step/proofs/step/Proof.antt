@@ -2,9 +2,9 @@
 use borrow.Author.Needs.{needs}
 use mathlib.Core.Path.{sym, _∙_}
 use denote.Ref.{now}
+use Rattle.attempt.proofs.Journaled.{any-accepted-journaled}
 use Rattle.attempt.proofs.Keeps.{reachable-passes}
 use Rattle.attempt.proofs.Reaching.{reachable-shown}
-use Rattle.client_verdict.proofs.Judged.{any-accepted}
 use Rattle.client_step.proofs.step.Statement.{statement}
 use Rattle.client_step.proofs.step.Tie as tie
 
@@ -17,7 +17,7 @@ returns c =
     let g = s .args in
     let shown-is =
     c .step-any .ensures ∙
-    sym (any-accepted (g .attempt) (g .event) (now (g .bytes)) (reachable-passes {a = g .attempt} (s .pre))) in
+    sym (any-accepted-journaled (g .attempt) (g .event) (now (g .bytes)) (reachable-passes {a = g .attempt} (s .pre))) in
     (shown-is, reachable-shown (g .attempt) _ _ (c .step-any .result) (s .pre) shown-is)
 
 pub step-spec : {M : Type 1} → statement M

@@ -2,7 +2,7 @@
 use mathlib.Core.Path.{ap}
 use borrow.Author.Needs.{needs}
 use Rattle.attempt.specs.Start.{Start}
-use Rattle.c_record.specs.Numbers.{refusalOf}
+use Rattle.refusals.specs.Reply.{refusalOf}
 use Rattle.c_record.specs.Records.{Left, recordOf}
 use Rattle.c_record.proofs.Records.{start-counts}
 use Rattle.c_record.proofs.attempts.start_record.Statement.{statement}
