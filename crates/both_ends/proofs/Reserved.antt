@@ -25,6 +25,7 @@ use Rattle.negotiation.specs.Packet.{listSent, negotiationPacket}
 use Rattle.negotiation.proofs.Packets.{negotiated, read-back}
 use Rattle.attempt.specs.Attempt.{tableOf, destinationOf, sourceOf, ownAsSent}
 use Rattle.attempt.specs.Events.{Reachable}
+use Rattle.attempt.specs.Journaled.{journaled, journaledStep}
 use Rattle.attempt.specs.Step.{After, same, isLate, unchanged, actOn, onDatagram, stepOf}
 use Rattle.attempt.specs.declared.Attempt.{Attempt}
 use Rattle.attempt.specs.declared.Event.the-variants.{Datagram}
@@ -83,14 +84,16 @@ pub same-event : (a : Attempt) (received offered numbers others : List ℕ) (bit
     → negotiationPacket received offered others otherBits otherRoom ≡ answered other
     → allBelow 256 received ≡ true → allBelow (2 ^ 32) (listSent offered numbers) ≡ true
     → allBelow (2 ^ 32) (listSent offered others) ≡ true
-    → stepOf a Datagram packet ≡ stepOf a Datagram other
+    → journaledStep a Datagram packet ≡ journaledStep a Datagram other
+unfolding journaledStep
 same-event a received offered numbers others bits otherBits room otherRoom packet other r written written′ bytes below below′ =
     let rule = negotiated received offered numbers bits room packet written .0 .offer .numbers in
     let rule′ = negotiated received offered others otherBits otherRoom other written′ .0 .offer .numbers in
-    on-packet a received (listSent offered numbers) packet (read-back received offered numbers bits room packet written bytes below) ∙
+    ap journaled
+    (on-packet a received (listSent offered numbers) packet (read-back received offered numbers bits room packet written bytes below) ∙
     on-lists a (sourceID received) (destinationID received) (listSent offered numbers) (listSent offered others) r
     (sent-offered offered numbers rule ∙ sym (sent-offered offered others rule′)) ∙
-    sym (on-packet a received (listSent offered others) other (read-back received offered others otherBits otherRoom other written′ bytes below′))
+    sym (on-packet a received (listSent offered others) other (read-back received offered others otherBits otherRoom other written′ bytes below′)))
 
 -- ---- information
 

@@ -20,7 +20,8 @@ use Rattle.information.specs.Information.{informationBytes}
 use Rattle.information.specs.declared.Presence.the-variants.{Given}
 use Rattle.attempt.specs.AsSent.{givenFor, sentFrom, listAsSent}
 use Rattle.attempt.specs.Attempt.{padded, ownOf}
-use Rattle.attempt.specs.Events.{run, Reachable}
+use Rattle.attempt.specs.Events.{journaledRun, Reachable}
+use Rattle.attempt.specs.Journaled.{journaledStep}
 use Rattle.attempt.specs.OwnList.{mayBeAnswered, wordOf, wordFor, rowsFor}
 use Rattle.attempt.specs.Start.{Input, inputOf, startOf, opened}
 use Rattle.attempt.specs.Step.{Effect.acts, same, onDatagram, stepOf}
@@ -38,7 +39,7 @@ abbrev begun : Attempt
 begun = startOf sender .attempt
 
 begun-reachable : Reachable begun
-unfolding eachPairKeepsRule pairsKeepRule elem entriesKeepRule tableKeepsRule reserved usable run
+unfolding eachPairKeepsRule pairsKeepRule elem entriesKeepRule tableKeepsRule reserved usable journaledRun
 begun-reachable = record { input = sender; accepted = refl; events = []; reached = refl }
 
 -- The packet that ends with a reserved number
@@ -46,16 +47,16 @@ with-number : negotiationPacket caseReceived caseOffered (0x1A2A3A4A ∷ []) 64 
 unfolding negotiationPacket packetFor listBytes tableKeepsRule entriesKeepRule reservedKeepRule eachReserved elem usable reserved
 with-number = refl
 
-pub both-packets : stepOf begun Datagram (casePacket ++ listBytes (0x1A2A3A4A ∷ [])) ≡ stepOf begun Datagram casePacket
+pub both-packets : journaledStep begun Datagram (casePacket ++ listBytes (0x1A2A3A4A ∷ [])) ≡ journaledStep begun Datagram casePacket
 unfolding allBelow listBytes
 both-packets =
     same-event begun caseReceived caseOffered (0x1A2A3A4A ∷ []) [] 64 64 26 22 _ casePacket begun-reachable with-number whole-case
     refl refl refl
 
 -- and it acts with 14
-pub acts-with-14 : stepOf begun Datagram casePacket .reply ≡ answered (acts 14)
+pub acts-with-14 : journaledStep begun Datagram casePacket .reply ≡ answered (acts 14)
 unfolding preferred eachPairKeepsRule pairsKeepRule elem entriesKeepRule tableKeepsRule reserved usable entries listBytes
-    isReadableNegotiation padded wordWhere wordFor rowsFor mayBeAnswered startOf opened stepOf onDatagram same
+    isReadableNegotiation padded wordWhere wordFor rowsFor mayBeAnswered startOf opened stepOf onDatagram same journaledStep
 acts-with-14 = refl
 
 -- Every server's choice for the client of P10, which attempts 3
@@ -63,7 +64,7 @@ pub both-informations : (readable accepted : List ℕ) (pairs : List (List ℕ))
     decide readable accepted pairs barred version Given (informationBytes 3 (3 ∷ 0x0A0A0A0A ∷ 4 ∷ 0x1A2A3A4A ∷ [])) ≡
     decide readable accepted pairs barred version Given (informationBytes 3 (3 ∷ 4 ∷ []))
 unfolding allBelow givenFor sentFrom listAsSent paired pairKeepsRule eachPairKeepsRule pairsKeepRule preferred elem entriesKeepRule
-    tableKeepsRule reserved usable entries listBytes isReadableNegotiation padded ownOf run members wordWhere wordOf wordFor rowsFor
+    tableKeepsRule reserved usable entries listBytes isReadableNegotiation padded ownOf journaledRun journaledStep members wordWhere wordOf wordFor rowsFor
     mayBeAnswered startOf opened stepOf onDatagram same
 both-informations readable accepted pairs barred version =
     same-choice client.acted client.two [] 20 12 _ _ client.acted-reachable (client.calls .with-two) (client.calls .nothing)

@@ -10,9 +10,10 @@ use lib.Dec.{eqb, leb}
 use borrow.Author.Tests.{leb-true, ne-eqb, eqb-true, eqb-false}
 use Rattle.refusals.proofs.Rules.{both-true, lowest-applies}
 use Rattle.versions.specs.Table.{elem}
+use Rattle.attempt.specs.Journaled.{journaledStep, journaledStepOfAny}
 use Rattle.attempt.specs.Limits.{notARecord}
 use Rattle.attempt.specs.Start.{Input, Start, isAccepted, startRules, startOf, refusedStart, openedStart, opened, blank}
-use Rattle.attempt.specs.Step.{unchanged, stepOf, stepOfAny, countsFit, couldBeAttempt}
+use Rattle.attempt.specs.Step.{unchanged, countsFit, couldBeAttempt}
 use Rattle.attempt.specs.declared.Attempt.{Attempt}
 use Rattle.attempt.specs.declared.End.{End}
 use Rattle.attempt.specs.declared.End.the-variants.{Open, Completed, Closed}
@@ -30,19 +31,17 @@ closed-value mark value n m h =
     let e = rw (ne-eqb mark 0 n, ne-eqb mark 1 m) at h in
     leb-true _ _ (both-true (eqb mark 2) (leb value 255) e .1)
 
--- What the test of flags, mark and unused word tells
+-- What the test of flags and mark tells
 pub record Fitting (r : Record) : Type 0 where
   pub acted : leb (r .acted) 1 ≡ true
   pub heard : leb (r .heard) 1 ≡ true
   pub mark : markFits (r .«end_mark») (r .«end_value») ≡ true
-  pub unused : eqb (r .unused) 0 ≡ true
 
 pub fitting : (r : Record) → marksFit r ≡ true → Fitting r
 fitting r h =
     let a = both-true (leb (r .acted) 1) _ h in
     let b = both-true (leb (r .heard) 1) _ (a .1) in
-    let m = both-true (markFits (r .«end_mark») (r .«end_value»)) _ (b .1) in
-    record { acted = a .0; heard = b .0; mark = m .0; unused = m .1 }
+    record { acted = a .0; heard = b .0; mark = b .1 }
 
 -- A record that events take: both parts of its test
 pub record-parts : (r : Record) → isRecord r ≡ true → (marksFit r ≡ true) × (couldBeAttempt (attemptOf r) ≡ true)
@@ -98,7 +97,6 @@ record-back r h =
       flag-whole (r .heard) (f .heard),
       e .mark-is,
       e .value-is,
-      sym (eqb-true (r .unused) 0 (f .unused)),
     )
 
 -- The record of what could be an attempt, with such an end, is one that events take
@@ -138,7 +136,8 @@ fits-kept a f =
       completes = λ v. (f .0, refl);
     }
 
-pub step-fits : (a : Attempt) (e : Event) (bytes : List ℕ) → RecordFits a → RecordFits (stepOf a e bytes .attempt)
+pub step-fits : (a : Attempt) (e : Event) (bytes : List ℕ) → RecordFits a → RecordFits (journaledStep a e bytes .attempt)
+unfolding journaledStep
 step-fits a e bytes f = step-keeps RecordFits a (fits-kept a f) e bytes
 
 -- and so does every start that is accepted
@@ -172,7 +171,7 @@ module _ (r : Record) (kind value : ℕ) (bytes : List ℕ) where
   step-refused h = rw h
 
   pub step-known : isRecord r ≡ true → {e : Event} → eventOf kind value ≡ some e →
-      leftAfter (stepOf (attemptOf r) e bytes) ≡ stepRecord r kind value bytes
+      leftAfter (journaledStep (attemptOf r) e bytes) ≡ stepRecord r kind value bytes
   unfolding stepRecord
   step-known h k = rw (h, k)
 
@@ -190,11 +189,11 @@ module _ (r : Record) (kind value : ℕ) (bytes : List ℕ) where
 
     -- the step for any record value, over the record
     pub step-any-known : {e : Event} → eventOf kind value ≡ some e →
-        leftAfter (stepOfAny (attemptOf r) e bytes) ≡ stepRecord r kind value bytes
-    unfolding stepOfAny
+        leftAfter (journaledStepOfAny (attemptOf r) e bytes) ≡ stepRecord r kind value bytes
+    unfolding journaledStepOfAny
     step-any-known {e} k = go (couldBeAttempt (attemptOf r)) refl where
       go : (b : Bool) → couldBeAttempt (attemptOf r) ≡ b →
-          leftAfter (cond b (stepOf (attemptOf r) e bytes) (unchanged (attemptOf r) notARecord)) ≡ stepRecord r kind value bytes
+          leftAfter (cond b (journaledStep (attemptOf r) e bytes) (unchanged (attemptOf r) notARecord)) ≡ stepRecord r kind value bytes
       go true h = step-known (marks-record h) k
       go false h =
           ap (λ (x : Record). record { left = x; refusal = notARecord }) (record-back r marks) ∙

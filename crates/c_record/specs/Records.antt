@@ -9,10 +9,12 @@ use Rattle.refusals.specs.Reply.{Reply, refuse, refusalOf}
 use Rattle.refusals.specs.declared.Call.the-variants.{Writing}
 use Rattle.versions.specs.Limits.{maxTable}
 use Rattle.information.specs.declared.Presence.the-variants.{Missing, Given}
+use Rattle.journal.specs.Journals.{journalOf}
 use Rattle.attempt.specs.Attempt.{ownOf}
+use Rattle.attempt.specs.Journaled.{journaledStep}
 use Rattle.attempt.specs.Limits.{maxID}
 use Rattle.attempt.specs.Start.{Input, startOf}
-use Rattle.attempt.specs.Step.{After, stepOf, couldBeAttempt}
+use Rattle.attempt.specs.Step.{After, couldBeAttempt}
 use Rattle.attempt.specs.declared.Attempt.{Attempt}
 use Rattle.attempt.specs.declared.End.{End}
 use Rattle.attempt.specs.declared.End.the-variants.{Open, Completed, Closed}
@@ -56,15 +58,16 @@ attemptOf r =
       acted = eqb (r .acted) 1;
       heard = eqb (r .heard) 1;
       end = endOf (r .«end_mark») (r .«end_value»);
+      journal = r .journal;
     }
 
--- Flags, end mark and unused word as the record of an attempt has them
+-- Flags and end mark as the record of an attempt has them
 abbrev pub marksFit : Record → Bool
 marksFit r =
-    leb (r .acted) 1 && (leb (r .heard) 1 && (markFits (r .«end_mark») (r .«end_value») && eqb (r .unused) 0))
+    leb (r .acted) 1 && (leb (r .heard) 1 && markFits (r .«end_mark») (r .«end_value»))
 
--- What is judged of any record: its flags, its end mark, its unused word, its counts, and that its attempted version is
--- in its table. That table, rows, IDs and Original Version are those of one start is not judged.
+-- What is judged of any record: its flags, its end mark, its counts, and that its attempted version is in its table. That
+-- table, rows, IDs and Original Version are those of one start is not judged, nor is the journal, which no event reads.
 unfoldable pub isRecord : Record → Bool
 isRecord r = marksFit r && couldBeAttempt (attemptOf r)
 
@@ -85,7 +88,7 @@ recordOf a =
       heard = flag (a .heard);
       «end_mark» = markOf (a .end);
       «end_value» = markValue (a .end);
-      unused = 0;
+      journal = a .journal;
     }
 
 -- Zeroed memory in a record's place
@@ -105,7 +108,7 @@ zeroed =
       heard = 0;
       «end_mark» = 0;
       «end_value» = 0;
-      unused = 0;
+      journal = journalOf [];
     }
 
 -- Events: 0 a datagram, 1 a packet was processed, 2 an outcome with information given, 3 one with it missing; the
@@ -116,7 +119,8 @@ eventOf kind value =
     (cond (eqb kind 1) (some PacketProcessed)
     (cond (eqb kind 2) (some (Outcome value Given)) (cond (eqb kind 3) (some (Outcome value Missing)) none)))
 
--- What an event leaves and answers
+-- What an event leaves and answers. Its answer is noted (document 02, C-20); what gets 255 is left as found, its journal
+-- too
 pub record Left : Type 0 where
   pub left : Record
   pub refusal : ℕ
@@ -129,7 +133,7 @@ asFound r = record { left = r; refusal = notValid }
 
 abbrev pub eventOn : Record → List ℕ → Option Event → Left
 eventOn r bytes none = asFound r
-eventOn r bytes (some e) = leftAfter (stepOf (attemptOf r) e bytes)
+eventOn r bytes (some e) = leftAfter (journaledStep (attemptOf r) e bytes)
 
 unfoldable pub stepRecord : Record → ℕ → ℕ → List ℕ → Left
 stepRecord r kind value bytes = cond (isRecord r) (eventOn r bytes (eventOf kind value)) (asFound r)

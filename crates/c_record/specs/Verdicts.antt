@@ -1,7 +1,8 @@
 -- What a verdict does to the record without enums, field by field. Private functions promise this; no public promise
 -- names it.
 use Prim.Native.Nat.{ℕ}
-use Rattle.client_verdict.specs.Verdicts.{attemptedAfter}
+use Rattle.refusals.specs.Reply.{refusalOf}
+use Rattle.client_verdict.specs.Verdicts.{attemptedAfter, journalAfter, replyOf}
 use Rattle.client_verdict.specs.declared.Verdict.{Verdict}
 use Rattle.client_verdict.specs.declared.Verdict.the-variants.{Unchanged, Closed, Acted, Noted, Completed}
 use Rattle.c_record.specs.Records.{Left}
@@ -35,13 +36,6 @@ valueAfter x (Acted v) = x
 valueAfter x Noted = x
 valueAfter x (Completed v) = v
 
-abbrev pub numberOf : Verdict → ℕ
-numberOf (Unchanged r) = r .0
-numberOf (Closed r) = r .0
-numberOf (Acted v) = 0
-numberOf Noted = 0
-numberOf (Completed v) = 0
-
 -- The record and the number after a verdict
 abbrev pub appliedRecord : Record → Verdict → Left
 appliedRecord h v =
@@ -60,7 +54,7 @@ appliedRecord h v =
         heard = heardNumber (h .heard) v;
         «end_mark» = markAfter (h .«end_mark») v;
         «end_value» = valueAfter (h .«end_value») v;
-        unused = h .unused;
+        journal = journalAfter (h .journal) v;
       };
-      refusal = numberOf v;
+      refusal = refusalOf (replyOf v);
     }

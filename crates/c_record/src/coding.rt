@@ -67,25 +67,29 @@ pub(crate) fn decode(held: Record) -> Attempt
     requires { ⌜ marksFit held ≡ true ⌝ }
     ensures { λ r. ⌜ r ≡ attemptOf held ⌝ }
 {
+    let table_len = held.table_len as usize;
+    let destination_len = held.destination_len as usize;
+    let source_len = held.source_len as usize;
     let table = held.table;
     let rows = held.rows;
     let destination = held.destination;
     let source = held.source;
+    let journal = held.journal;
     let end = end_of(held.end_mark, held.end_value);
     Attempt {
         table,
-        table_len: held.table_len as usize,
+        table_len,
         rows,
         destination,
-        destination_len: held.destination_len as usize,
+        destination_len,
         source,
-        source_len: held.source_len as usize,
+        source_len,
         original: held.original,
         attempted: held.attempted,
         acted: held.acted == 1,
         heard: held.heard == 1,
         end,
-        journal: held.journal,
+        journal,
     }
 }
 
@@ -107,10 +111,14 @@ pub(crate) fn encode(attempt: Attempt) -> Record
     requires { ⌜ countsFit attempt ≡ true ⌝ }
     ensures { λ r. ⌜ r ≡ recordOf attempt ⌝ }
 {
+    let table_len = attempt.table_len as u32;
+    let destination_len = attempt.destination_len as u32;
+    let source_len = attempt.source_len as u32;
     let table = attempt.table;
     let rows = attempt.rows;
     let destination = attempt.destination;
     let source = attempt.source;
+    let journal = attempt.journal;
     let end = attempt.end;
     let mark = mark_of(end);
     let value = value_of(end);
@@ -121,16 +129,16 @@ pub(crate) fn encode(attempt: Attempt) -> Record
         table,
         destination,
         source,
-        table_len: attempt.table_len as u32,
-        destination_len: attempt.destination_len as u32,
-        source_len: attempt.source_len as u32,
+        table_len,
+        destination_len,
+        source_len,
         original: attempt.original,
         attempted: attempt.attempted,
         acted,
         heard,
         end_mark: mark,
         end_value: value,
-        journal: attempt.journal,
+        journal,
     }
 }
 

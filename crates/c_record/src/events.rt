@@ -3,7 +3,7 @@ ghost use mathlib.Core.Option.{Option.some};
 ghost use mathlib.Core.Path.{_≡_};
 ghost use Prim.Native.Nat.{_≤_};
 ghost use Rattle.c_record.specs.Records.{eventOf, stepRecord, shownLeft};
-ghost use Rattle.c_record.specs.Verdicts.{actedNumber, heardNumber, markAfter, valueAfter, numberOf, appliedRecord};
+ghost use Rattle.c_record.specs.Verdicts.{actedNumber, heardNumber, markAfter, valueAfter, appliedRecord};
 use crate::Record;
 use crate::RecordAndRefusal;
 use crate::coding::decode;
@@ -19,7 +19,8 @@ use information::Presence;
 
 // One event: the record that it leaves, and the number of its refusal, 0 for none. `kind` is 0 for a datagram, 1 for a
 // processed packet, 2 for an outcome with information given, 3 for one with it missing; `value` is an outcome's version
-// in use. Refusals, in order: 255 for a record that could not be an attempt's or another kind, which leaves it as found;
+// in use. Each answer is noted in the journal, but for 255; "unchanged" leaves the journal out. Refusals, in order: 255 for
+// a record that could not be an attempt's or another kind, which leaves it as found, its journal too;
 // a datagram: 61, 62, 63, 64, unchanged, and 65, which ends the attempt; a processed packet: 62, unchanged;
 // an outcome: 62, unchanged, and 31 to 35, 71 to 75, which end the attempt.
 pub fn step_record(held: Record, kind: u32, value: u32, bytes: &[u8]) -> RecordAndRefusal

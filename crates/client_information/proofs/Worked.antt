@@ -18,7 +18,8 @@ use Rattle.information.specs.Laws.{ReadAs}
 use Rattle.information.specs.declared.Sender.the-variants.{Client}
 use Rattle.attempt.specs.AsSent.{givenFor, sentFrom, listAsSent, isTaken, eachGivenKeepsRule, givenKeepRule}
 use Rattle.attempt.specs.Attempt.{padded, ownOf}
-use Rattle.attempt.specs.Events.{Handed, run, Reachable}
+use Rattle.attempt.specs.Events.{Handed, journaledRun, Reachable}
+use Rattle.attempt.specs.Journaled.{journaledStep}
 use Rattle.attempt.specs.OwnList.{mayBeAnswered, wordOf, wordFor, rowsFor}
 use Rattle.attempt.specs.Start.{Input, inputOf, startOf, opened}
 use Rattle.attempt.specs.Step.{same, onDatagram, stepOf}
@@ -39,7 +40,7 @@ packet =
     }
 
 abbrev pub acted : Attempt
-acted = run (startOf four .attempt) (packet ∷ [])
+acted = journaledRun (startOf four .attempt) (packet ∷ [])
 
 pub acted-reachable : Reachable acted
 unfolding paired pairKeepsRule eachPairKeepsRule pairsKeepRule elem entriesKeepRule tableKeepsRule reserved usable
@@ -66,7 +67,7 @@ pub record Calls : Type 0 where
 pub calls : Calls
 unfolding informationAsSent givenFor sentFrom listAsSent isTaken eachGivenKeepsRule givenKeepRule paired pairKeepsRule
     eachPairKeepsRule pairsKeepRule preferred elem entriesKeepRule tableKeepsRule reserved usable entries listBytes
-    isReadableNegotiation padded ownOf run members wordWhere wordOf wordFor rowsFor mayBeAnswered startOf opened stepOf
+    isReadableNegotiation padded ownOf journaledRun journaledStep members wordWhere wordOf wordFor rowsFor mayBeAnswered startOf opened stepOf
     onDatagram same
 calls =
     record {
@@ -83,7 +84,7 @@ calls =
 pub two-read : ReadAs Client (informationBytes 3 (3 ∷ 0x0A0A0A0A ∷ 4 ∷ 0x1A2A3A4A ∷ [])) 3 (3 ∷ 0x0A0A0A0A ∷ 4 ∷ 0x1A2A3A4A ∷ [])
 unfolding allBelow informationAsSent givenFor sentFrom listAsSent isTaken eachGivenKeepsRule givenKeepRule paired pairKeepsRule
     eachPairKeepsRule pairsKeepRule preferred elem entriesKeepRule tableKeepsRule reserved usable entries listBytes
-    isReadableNegotiation padded ownOf run members wordWhere wordOf wordFor rowsFor mayBeAnswered startOf opened stepOf
+    isReadableNegotiation padded ownOf journaledRun journaledStep members wordWhere wordOf wordFor rowsFor mayBeAnswered startOf opened stepOf
     onDatagram same
 two-read =
     client-read acted two 20 (informationBytes 3 (3 ∷ 0x0A0A0A0A ∷ 4 ∷ 0x1A2A3A4A ∷ [])) acted-reachable (calls .with-two)

@@ -16,6 +16,15 @@ destination-fits c = omega (arith, counts-destination (c .args .attempt) (c .pre
 source-fits : (c : tie.Start) → c .args .attempt .«source_len» < 2 ^ 32
 source-fits c = omega (arith, counts-source (c .args .attempt) (c .pre))
 
+cast-table-len : tie.Need-cast-table-len
+cast-table-len c = record { fits = table-fits (c .before) }
+
+cast-destination-len : tie.Need-cast-destination-len
+cast-destination-len c = record { fits = destination-fits (c .before .before) }
+
+cast-source-len : tie.Need-cast-source-len
+cast-source-len c = record { fits = source-fits (c .before .before .before) }
+
 mark-of-requires : tie.Need-mark-of-requires
 mark-of-requires c κs = search needs
 
@@ -28,31 +37,21 @@ flag-of-requires c κs = search needs
 flag-of-requires-2 : tie.Need-flag-of-requires-2
 flag-of-requires-2 c κs = search needs
 
-cast-t11 : tie.Need-cast-t11
-cast-t11 c = record { fits = table-fits (c .before .before .before .before .before .before .before .before .before) }
-
-cast-t12 : tie.Need-cast-t12
-cast-t12 c = record { fits = destination-fits (c .before .before .before .before .before .before .before .before .before .before) }
-
-cast-t13 : tie.Need-cast-t13
-cast-t13 c = record { fits = source-fits (c .before .before .before .before .before .before .before .before .before .before .before) }
-
 returns : tie.Need-returns
 unfolding recordOf
 returns c =
-    let flags = c .before .before .before in
-    let end = flags .before .before in
-    rw (end .before .mark-of .ensures, end .value-of .ensures, flags .before .flag-of .ensures, flags .flag-of2 .ensures)
+    let end = c .before .before in
+    rw (end .before .mark-of .ensures, end .value-of .ensures, c .before .flag-of .ensures, c .flag-of2 .ensures)
 
 pub encode-spec : {M : Type 1} → statement M
 encode-spec =
     tie.close
     (tie.spec
+    cast-table-len
+    cast-destination-len
+    cast-source-len
     mark-of-requires
     value-of-requires
     flag-of-requires
     flag-of-requires-2
-    cast-t11
-    cast-t12
-    cast-t13
     returns)

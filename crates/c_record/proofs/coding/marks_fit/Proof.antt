@@ -1,10 +1,9 @@
 -- `marks_fit` meets its contract: test by test.
 use Prim.Native.Nat.{_≤_, _<_}
-use mathlib.Core.Bool.{true, false}
-use mathlib.Core.Path.{_≡_, sym, _∙_}
-use lib.Dec.{eqb}
+use mathlib.Core.Bool.{false}
+use mathlib.Core.Path.{_≡_, _∙_}
 use borrow.Author.Needs.{needs}
-use borrow.Author.Tests.{lt-leb, le-leb, not-true, not-false}
+use borrow.Author.Tests.{lt-leb, le-leb}
 use Rattle.c_record.specs.Records.{marksFit, markFits}
 use Rattle.c_record.specs.declared.Record.{Record}
 use Rattle.c_record.proofs.coding.marks_fit.Statement.{statement}
@@ -19,11 +18,8 @@ module _ (r : Record) where
     bad-heard n = rw (le-leb _ _ a, lt-leb _ _ n)
 
     module _ (h : r .heard ≤ 1) where
-      bad-mark : markFits (r .«end_mark») (r .«end_value») ≡ false → false ≡ marksFit r
-      bad-mark n = rw (le-leb _ _ a, le-leb _ _ h, n)
-
-      good-mark : markFits (r .«end_mark») (r .«end_value») ≡ true → eqb (r .unused) 0 ≡ marksFit r
-      good-mark m = rw (le-leb _ _ a, le-leb _ _ h, m)
+      by-mark : markFits (r .«end_mark») (r .«end_value») ≡ marksFit r
+      by-mark = rw (le-leb _ _ a, le-leb _ _ h)
 
 returns : tie.Need-returns
 returns c = bad-acted (c .before .before .args .held) (c .if1 .taken)
@@ -38,20 +34,9 @@ mark-fits-requires c κs = search needs
 
 returns-3 : tie.Need-returns-3
 returns-3 c =
-    let mark = c .before in
-    let h = mark .before in
+    let h = c .before in
     let a = h .before .before in
-    bad-mark (a .before .before .args .held) (a .if1 .left) (h .if2 .left)
-    (sym (mark .mark-fits .ensures) ∙ not-true _ (c .if3 .taken))
-
-returns-4 : tie.Need-returns-4
-returns-4 c =
-    let known = c .before in
-    let mark = known .before in
-    let h = mark .before in
-    let a = h .before .before in
-    good-mark (a .before .before .args .held) (a .if1 .left) (h .if2 .left)
-    (sym (mark .mark-fits .ensures) ∙ not-false _ (known .if3 .left))
+    c .mark-fits .ensures ∙ by-mark (a .before .before .args .held) (a .if1 .left) (h .if2 .left)
 
 pub marks-fit-spec : {M : Type 1} → statement M
-marks-fit-spec = tie.close (tie.spec returns returns-2 mark-fits-requires returns-3 returns-4)
+marks-fit-spec = tie.close (tie.spec returns returns-2 mark-fits-requires returns-3)

@@ -7,8 +7,9 @@ use native.Mathlib.Omega.{arith}
 use lib.Dec.{eqb}
 use borrow.Author.Needs.{needs}
 use borrow.Author.Tests.{ne-eqb, not-true, not-false}
-use Rattle.attempt.specs.Step.{stepOfAny}
+use Rattle.attempt.specs.Journaled.{journaledAny, journaledStepOfAny}
 use Rattle.attempt.specs.declared.Attempt.{Attempt}
+use Rattle.attempt.proofs.Journaled.{any-journaled}
 use Rattle.client_verdict.specs.Verdicts.{applied}
 use Rattle.c_record.specs.Records.{marksFit, isRecord, eventOf, leftAfter}
 use Rattle.c_record.proofs.Applied.{verdict-left}
@@ -57,9 +58,10 @@ returns-3 c =
     let e = kind .event-of .result in
     verdict-left (g .held) (marks h) (c .judge .result) ∙
     ap leftAfter
-    (ap (λ (a : Attempt). applied a (c .judge .result)) (sym (decoded .decode .ensures)) ∙
-    c .judge .ensures ∙
-    ap (λ (a : Attempt). stepOfAny a e (g .bytes .now)) (decoded .decode .ensures)) ∙
+    (ap (λ (a : Attempt). journaledAny (applied a (c .judge .result))) (sym (decoded .decode .ensures)) ∙
+    ap journaledAny (c .judge .ensures) ∙
+    any-journaled (decoded .decode .result) e (g .bytes .now) ∙
+    ap (λ (a : Attempt). journaledStepOfAny a e (g .bytes .now)) (decoded .decode .ensures)) ∙
     step-any-known (g .held) (g .kind) (g .value) (g .bytes .now) (marks h) (kind .event-of .ensures)
 
 pub judge-record-spec : {M : Type 1} → statement M

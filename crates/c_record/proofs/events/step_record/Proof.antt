@@ -1,4 +1,4 @@
--- `step_record` meets its contract: the verdict, applied field by field.
+-- `step_record` meets its contract: the verdict, applied field by field, and noted.
 use borrow.Author.Needs.{needs}
 use Rattle.c_record.proofs.events.step_record.Statement.{statement}
 use Rattle.c_record.proofs.events.step_record.Tie as tie
@@ -21,18 +21,26 @@ mark-after-requires c κs = search needs
 value-after-requires : tie.Need-value-after-requires
 value-after-requires c κs = search needs
 
+journal-after-requires : tie.Need-journal-after-requires
+journal-after-requires c κs = search needs
+
 number-of-requires : tie.Need-number-of-requires
 number-of-requires c κs = search needs
 
+cast-refusal : tie.Need-cast-refusal
+cast-refusal c = search needs
+
 returns : tie.Need-returns
 returns c =
-    let value = c .before in
+    let journal = c .before in
+    let value = journal .before in
     let mark = value .before in
     let heard = mark .before in
     let acted = heard .before in
     let attempted = acted .before in
     rw (
       c .number-of .ensures,
+      journal .journal-after .ensures,
       value .value-after .ensures,
       mark .mark-after .ensures,
       heard .heard-after .ensures,
@@ -51,5 +59,7 @@ step-record-spec =
     heard-after-requires
     mark-after-requires
     value-after-requires
+    journal-after-requires
     number-of-requires
+    cast-refusal
     returns)
