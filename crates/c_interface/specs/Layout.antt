@@ -1,18 +1,19 @@
 -- What a host compares before its first call: the version of the interface, and the record's size and layout.
 use Prim.Native.Nat.{ℕ, _+_, _*_}
 use lib.ListN.{replicate}
+use Rattle.journal.specs.Journals.{places}
 use Rattle.versions.specs.Limits.{maxTable}
 use Rattle.attempt.specs.Limits.{maxID}
 use Rattle.c_record.specs.declared.Record.{Record}
 
--- The name of `qv_interface_8` has this number too
+-- The name of `qv_interface_9` has this number too
 abbrev pub interfaceVersion : ℕ
-interfaceVersion = 8
+interfaceVersion = 9
 
--- The size of the record in bytes: a row and a version for each place of the table, two connection IDs, ten numbers. No
--- padding, which C and Rust check
+-- The size of the record in bytes: a row and a version for each place of the table, two connection IDs, ten numbers, the
+-- answers of the journal. No padding, which C and Rust check
 abbrev pub recordSize : ℕ
-recordSize = 12 * maxTable + 2 * maxID + 40
+recordSize = 12 * maxTable + 2 * maxID + 40 + places
 
 -- The values that `qv_known_record` fills in
 unfoldable pub knownRecord : Record
@@ -31,5 +32,5 @@ knownRecord =
       heard = 0x47;
       «end_mark» = 0x48;
       «end_value» = 0x49;
-      unused = 0x4a;
+      journal = record { answers = replicate places 0x51; count = 0x52 };
     }

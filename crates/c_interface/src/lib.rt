@@ -14,15 +14,16 @@ pub mod wire; // headers, packets, Version Information
 pub mod words; // lists as words, the second way to choose
 
 use attempt::MAX_ID;
+use journal::PLACES;
 use refusals::Call;
 use refusals::Close;
 use refusals::Refusal;
 use versions::MAX_TABLE;
 
 // The version of this interface; it changes with every function, record or answer that changes.
-pub const INTERFACE_VERSION: u32 = 8;
+pub const INTERFACE_VERSION: u32 = 9;
 // The size of the record in bytes.
-pub const RECORD_SIZE: usize = 12 * MAX_TABLE + 2 * MAX_ID + 40;
+pub const RECORD_SIZE: usize = 12 * MAX_TABLE + 2 * MAX_ID + 40 + PLACES;
 // The close code that is none, for an unknown kind of call.
 pub const UNKNOWN_CALL: u64 = 0xffffffffffffffff;
 
@@ -36,7 +37,7 @@ pub extern "C" fn qv_interface_version() -> u32
 // The same under a name that has the number: a program that was compiled for another interface does not link. The name
 // changes with INTERFACE_VERSION.
 #[no_mangle]
-pub extern "C" fn qv_interface_8() -> u32
+pub extern "C" fn qv_interface_9() -> u32
     ensures { λ r. ⌜ r ≡ interfaceVersion ⌝ }
 {
     INTERFACE_VERSION

@@ -27,12 +27,12 @@ pub fn step_record(held: Record, kind: u32, value: u32, bytes: &[u8]) -> RecordA
     ensures { λ r. ⌜ shownLeft r ≡ stepRecord held kind value (now (bytes .entry)) ⌝ }
 {
     let verdict = judge_record(held, kind, value, bytes);
+    let journal = journal_after(held.journal, verdict);
     let attempted = attempted_after(held.attempted, verdict);
     let acted = acted_after(held.acted, verdict);
     let heard = heard_after(held.heard, verdict);
     let mark = mark_after(held.end_mark, verdict);
     let number = value_after(held.end_value, verdict);
-    let journal = journal_after(held.journal, verdict);
     let refusal = number_of(verdict) as u32;
     // From here on no test: the compiler then stores the fields that changed, and copies the record nowhere.
     let mut left = held;

@@ -1,15 +1,15 @@
 -- Noting one more answer makes the journal of the longer list of answers.
-use Prim.Native.Nat.{ℕ, suc, _+_, _-_, _<_, _≤_, min}
+use Prim.Native.Nat.{ℕ, zero, suc, _+_, _-_, _<_, _≤_, min}
 use mathlib.Core.Bool.{Bool, true, false, cond}
 use mathlib.Core.List.{List, [], _∷_, _++_, append-nil}
 use mathlib.Core.Path.{_≡_, refl, sym, ap, ap₂, _∙_, subst}
 use native.Mathlib.Nat.{le-of-eq}
 use native.Mathlib.Numerals.{add-one}
 use native.Mathlib.Omega.{arith}
-use lib.Dec.{ltb, lit<}
+use lib.Dec.{eqb, ltb, lit<}
 use lib.ListN.{length, take, drop, getD, set, replicate, length-append, length-drop, length-replicate, drop-of-length-le}
 use lib.Seq.{drop-drop, drop-append-le, set-at, drop-cons, append-snoc, take-append-seam}
-use borrow.Author.Tests.{ltb-true, ltb-false, lt-ltb, le-ltb}
+use borrow.Author.Tests.{ltb-true, ltb-false, lt-ltb, le-ltb, eq-eqb, ne-eqb}
 use Rattle.journal.specs.Journals.{places, maxEvents, lastAnswers, inPlaces, journalOf, noteOf, toldOf}
 use Rattle.journal.specs.declared.Journal.{Journal}
 
@@ -17,13 +17,34 @@ use Rattle.journal.specs.declared.Journal.{Journal}
 abbrev pub journal : List ℕ → ℕ → Journal
 journal answers count = record { answers = answers; count = count }
 
--- The answers of a full array without the oldest, and one behind them, as the code writes them down
-pub eight : (l : List ℕ) (a : ℕ) → length l ≡ places →
-    (getD l 1 0 ∷ (getD l 2 0 ∷ (getD l 3 0 ∷ (getD l 4 0 ∷ (getD l 5 0 ∷ (getD l 6 0 ∷ (getD l 7 0 ∷ (a ∷ [])))))))) ≡
-    drop 1 l ++ (a ∷ [])
-eight l a h =
+-- An answer at one place of a list, written place by place from the i-th on
+abbrev pub putFrom : ℕ → List ℕ → ℕ → ℕ → List ℕ
+putFrom i [] k a = []
+putFrom i (x ∷ xs) k a = cond (eqb k i) a x ∷ putFrom (suc i) xs k a
+
+put-past : (i : ℕ) (l : List ℕ) (k a : ℕ) → k < i → putFrom i l k a ≡ l
+put-past i [] k a h = refl
+put-past i (x ∷ xs) k a h =
+    let other : eqb k i ≡ false = ne-eqb k i (λ e. omega (arith, h, e)) in
+    rw (other, put-past (suc i) xs k a (omega (arith, h)))
+
+put-from : (i : ℕ) (l : List ℕ) (k j a : ℕ) → j ≡ k + i → putFrom i l j a ≡ set l k a
+put-from i [] k j a h = refl
+put-from i (x ∷ xs) zero j a h =
+    let here : eqb j i ≡ true = eq-eqb j i (omega (arith, h)) in
+    rw (here, put-past (suc i) xs j a (omega (arith, h)))
+put-from i (x ∷ xs) (suc k) j a h =
+    let other : eqb j i ≡ false = ne-eqb j i (λ e. omega (arith, h, e)) in
+    rw (other, put-from (suc i) xs k j a (omega (arith, h)))
+
+-- All places of a full array, as the code reads them
+pub all-places : (l : List ℕ) → length l ≡ places →
+    getD l 0 0 ∷ (getD l 1 0 ∷ (getD l 2 0 ∷ (getD l 3 0 ∷ (getD l 4 0 ∷ (getD l 5 0 ∷ (getD l 6 0 ∷ (getD l 7 0 ∷ []))))))) ≡ l
+all-places l h =
     let at : (j : ℕ) → j < places → drop j l ≡ getD l j 0 ∷ drop (suc j) l =
     λ j k. drop-cons l j 0 (subst (λ (n : ℕ). j < n) (sym h) k) in
+    sym
+    (at 0 (lit< tt) ∙
     rw (
       at 1 (lit< tt),
       at 2 (lit< tt),
@@ -34,7 +55,21 @@ eight l a h =
       at 7 (lit< tt),
       drop-of-length-le l {i = places} (le-of-eq h),
     )
-    refl
+    refl)
+
+-- An answer at a place of a full array
+pub placed : (l : List ℕ) (k a : ℕ) → length l ≡ places →
+    putFrom 0
+    (getD l 0 0 ∷ (getD l 1 0 ∷ (getD l 2 0 ∷ (getD l 3 0 ∷ (getD l 4 0 ∷ (getD l 5 0 ∷ (getD l 6 0 ∷ (getD l 7 0 ∷ []))))))))
+    k a ≡
+    set l k a
+placed l k a h = ap (λ (m : List ℕ). putFrom 0 m k a) (all-places l h) ∙ put-from 0 l k k a (omega arith)
+
+-- The answers of a full array without the oldest, and one behind them
+pub eight : (l : List ℕ) (a : ℕ) → length l ≡ places →
+    (getD l 1 0 ∷ (getD l 2 0 ∷ (getD l 3 0 ∷ (getD l 4 0 ∷ (getD l 5 0 ∷ (getD l 6 0 ∷ (getD l 7 0 ∷ (a ∷ [])))))))) ≡
+    drop 1 l ++ (a ∷ [])
+eight l a h = ap (λ (m : List ℕ). drop 1 m ++ (a ∷ [])) (all-places l h)
 
 -- One more answer in the first unused place
 push : (xs : List ℕ) (a : ℕ) → length xs < places → set (inPlaces xs) (length xs) a ≡ inPlaces (xs ++ (a ∷ []))

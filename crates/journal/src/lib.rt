@@ -1,9 +1,10 @@
 // The journal of an attempt (document 02, C-20): the last eight event answers, oldest first, and the count of all events.
 // It is a part of the attempt's record that every event changes and none reads.
+ghost use mathlib.Core.Bool.{cond};
 ghost use mathlib.Core.List.{[], _∷_, _++_};
 ghost use mathlib.Core.Path.{_≡_};
 ghost use Prim.Native.Nat.{min};
-ghost use lib.ListN.{drop};
+ghost use lib.ListN.{drop, set};
 ghost use Rattle.journal.specs.Journals.{places, journalOf, noteOf, toldOf};
 
 // How many answers a journal holds.
@@ -45,8 +46,7 @@ pub fn note(journal: Journal, answer: u8) -> Journal
     let old = journal.answers;
     let place = count as usize;
     if place < PLACES {
-        let mut answers = old;
-        answers[place] = answer;
+        let answers = with_answer(old, place, answer);
         let next = count + 1;
         return Journal {
             answers,
@@ -62,6 +62,28 @@ pub fn note(journal: Journal, answer: u8) -> Journal
         };
     }
     Journal { answers, count }
+}
+
+// The answers with one at a place. It is written out place by place: a write to a place that is known only when it runs
+// goes through memory, and an event has little of that to spare (docs/PROVING.md, "Traps").
+fn with_answer(old: [u8; PLACES], place: usize, answer: u8) -> [u8; PLACES]
+    ensures { λ r. ⌜ r ≡ set old place answer ⌝ }
+{
+    let first = one_of(place == 0, answer, old[0]);
+    let second = one_of(place == 1, answer, old[1]);
+    let third = one_of(place == 2, answer, old[2]);
+    let fourth = one_of(place == 3, answer, old[3]);
+    let fifth = one_of(place == 4, answer, old[4]);
+    let sixth = one_of(place == 5, answer, old[5]);
+    let seventh = one_of(place == 6, answer, old[6]);
+    let eighth = one_of(place == 7, answer, old[7]);
+    [first, second, third, fourth, fifth, sixth, seventh, eighth]
+}
+
+fn one_of(new: bool, answer: u8, held: u8) -> u8
+    ensures { λ r. ⌜ r ≡ cond new answer held ⌝ }
+{
+    if new { answer } else { held }
 }
 
 // The answers without the oldest, and one behind them.

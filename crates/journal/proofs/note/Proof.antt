@@ -1,5 +1,5 @@
 -- `note` meets its contract: into the first unused place; behind the others, below the count's stop and at it.
-use mathlib.Core.Path.{_≡_, refl, ap₂}
+use mathlib.Core.Path.{_≡_, ap₂}
 use Prim.Native.Nat.{_+_, min}
 use native.Mathlib.Omega.{arith}
 use borrow.Author.Needs.{needs}
@@ -12,8 +12,8 @@ use Rattle.journal.proofs.note.Tie as tie
 cast-place : tie.Need-cast-place
 cast-place c = search needs
 
-array-write-answers : tie.Need-array-write-answers
-array-write-answers c = search needs
+with-answer-requires : tie.Need-with-answer-requires
+with-answer-requires c κs = search needs
 
 add-next : tie.Need-add-next
 add-next c = search needs
@@ -28,9 +28,10 @@ add-next-2 c = search needs
 returns : tie.Need-returns
 unfolding noteOf
 returns c =
-    let j = c .before .before .args .journal in
-    let m : j .count + 1 ≡ min (j .count + 1) maxEvents = omega (arith, c .if1 .taken) in
-    rw (lt-ltb _ _ (c .if1 .taken)) (ap₂ journal refl m)
+    let at = c .before in
+    let j = at .before .before .args .journal in
+    let m : j .count + 1 ≡ min (j .count + 1) maxEvents = omega (arith, at .if1 .taken) in
+    rw (lt-ltb _ _ (at .if1 .taken)) (ap₂ journal (c .with-answer .ensures) m)
 
 -- all are used, and the count goes on
 returns-2 : tie.Need-returns-2
@@ -53,7 +54,7 @@ note-spec =
     tie.close
     (tie.spec
     cast-place
-    array-write-answers
+    with-answer-requires
     add-next
     returns
     without-oldest-requires

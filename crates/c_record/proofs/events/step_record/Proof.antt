@@ -6,6 +6,9 @@ use Rattle.c_record.proofs.events.step_record.Tie as tie
 judge-record-requires : tie.Need-judge-record-requires
 judge-record-requires c κs = search needs
 
+journal-after-requires : tie.Need-journal-after-requires
+journal-after-requires c κs = search needs
+
 attempted-after-requires : tie.Need-attempted-after-requires
 attempted-after-requires c κs = search needs
 
@@ -21,9 +24,6 @@ mark-after-requires c κs = search needs
 value-after-requires : tie.Need-value-after-requires
 value-after-requires c κs = search needs
 
-journal-after-requires : tie.Need-journal-after-requires
-journal-after-requires c κs = search needs
-
 number-of-requires : tie.Need-number-of-requires
 number-of-requires c κs = search needs
 
@@ -32,34 +32,34 @@ cast-refusal c = search needs
 
 returns : tie.Need-returns
 returns c =
-    let journal = c .before in
-    let value = journal .before in
+    let value = c .before in
     let mark = value .before in
     let heard = mark .before in
     let acted = heard .before in
     let attempted = acted .before in
+    let journal = attempted .before in
     rw (
       c .number-of .ensures,
-      journal .journal-after .ensures,
       value .value-after .ensures,
       mark .mark-after .ensures,
       heard .heard-after .ensures,
       acted .acted-after .ensures,
       attempted .attempted-after .ensures,
+      journal .journal-after .ensures,
     )
-    (attempted .before .judge-record .ensures)
+    (journal .before .judge-record .ensures)
 
 pub step-record-spec : {M : Type 1} → statement M
 step-record-spec =
     tie.close
     (tie.spec
     judge-record-requires
+    journal-after-requires
     attempted-after-requires
     acted-after-requires
     heard-after-requires
     mark-after-requires
     value-after-requires
-    journal-after-requires
     number-of-requires
     cast-refusal
     returns)
