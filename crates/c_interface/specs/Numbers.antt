@@ -17,6 +17,8 @@ use Rattle.information.specs.declared.Presence.the-variants.{Missing, Given}
 use Rattle.information.specs.declared.Sender.{Sender}
 use Rattle.information.specs.declared.Sender.the-variants.{Client, Server}
 use Rattle.server.specs.FirstFlight.{Act, Act.negotiate, Act.use-version, decide}
+use Rattle.journal.specs.Journals.{toldOf}
+use Rattle.journal.specs.declared.Told.{Told}
 use Rattle.attempt.specs.Attempt.{ownOf}
 use Rattle.c_record.specs.Numbers.{notValid}
 use Rattle.c_record.specs.Records.{isRecord, attemptOf}
@@ -30,8 +32,8 @@ closeNumber (With code) = code
 abbrev pub returned : {A : Type 0} → Reply A → ℕ
 returned reply = refusalOf reply
 
--- What a lent number holds after an answer: what is read off its value, or, after a refusal, what it held
-abbrev pub leaving : {A : Type 0} → (A → ℕ) → Reply A → ℕ → ℕ
+-- What is lent holds after an answer what is read off its value, or, after a refusal, what it held
+abbrev pub leaving : {A B : Type 0} → (A → B) → Reply A → B → B
 leaving value (refused n c) found = found
 leaving value (answered a) found = value a
 
@@ -114,6 +116,19 @@ decideOn readable accepted pairs barred version presence information =
 -- The own list of a record's attempt, 255 for a record that could not be an attempt's (`isRecord`)
 abbrev pub ownAnswer : Record → Reply (List ℕ)
 ownAnswer r = cond (isRecord r) (answered (ownOf (attemptOf r))) (refused notValid Nothing)
+
+-- What the journal of a record's attempt tells (document 02, C-20), 255 for a record that could not be an attempt's
+abbrev pub journalAnswer : Record → Reply Told
+journalAnswer r = cond (isRecord r) (answered (toldOf (r .journal))) (refused notValid Nothing)
+
+abbrev pub answersTold : Told → List ℕ
+answersTold told = told .answers
+
+abbrev pub usedTold : Told → ℕ
+usedTold told = told .used
+
+abbrev pub countTold : Told → ℕ
+countTold told = told .count
 
 abbrev pub chosenIn : Found → ℕ
 chosenIn found = found .chosen

@@ -1,12 +1,12 @@
-// The attempt over its record without enums: the start, the events, the own list, the client's Version Information; the
-// record's layout.
+// The attempt over its record without enums: the start, the events, the own list, the client's Version Information, the
+// journal; the record's layout.
 ghost use mathlib.Core.Path.{_≡_};
 ghost use lib.ListN.{length};
 ghost use Rattle.refusals.specs.Written.{leaves};
 ghost use Rattle.attempt.specs.Start.{inputOf};
 ghost use Rattle.c_record.specs.Records.{stepRecord, startRecord, recordInformation, shownLeft};
 ghost use Rattle.c_interface.specs.Layout.{knownRecord, recordSize};
-ghost use Rattle.c_interface.specs.Numbers.{returned, leaving, ownAnswer};
+ghost use Rattle.c_interface.specs.Numbers.{returned, leaving, ownAnswer, journalAnswer, answersTold, usedTold, countTold};
 use crate::RECORD_SIZE;
 use attempt::MAX_ID;
 use c_record::NOT_VALID;
@@ -15,19 +15,22 @@ use c_record::RecordAndRefusal;
 use c_record::attempts::put_own;
 use c_record::attempts::start_record;
 use c_record::attempts::write_record_information;
+use c_record::coding::is_record;
 use c_record::events::step_record;
 use journal::Journal;
 use journal::PLACES;
+use journal::tell;
 use refusals::Written;
 use versions::MAX_TABLE;
 
 // One event in place. `kind` is 0 for a datagram, 1 for a processed packet, 2 for an outcome with information given,
 // 3 for one with it missing; `value` is the version in use of an outcome. `bytes` is the datagram, or the information
 // that is given; else it is not read. Refusals, in order:
-// 255 for a record that could not be an attempt's or another kind, which leaves the record as found;
+// 255 for a record that could not be an attempt's or another kind, which leaves the record as found, its journal too;
 // a datagram: 61, 62, 63, 64, unchanged; 65, which ends the attempt;
 // a processed packet: 62, unchanged;
 // an outcome: 62, unchanged; 31 to 35 and 71 to 75, which end the attempt.
+// "Unchanged" leaves the journal out: every answer but 255 is noted there.
 #[no_mangle]
 pub extern "C" fn qv_event(held: &mut Record, kind: u32, value: u32, bytes: &[u8]) -> u32
     ensures { λ r. ⌜ (r ≡ stepRecord (now (held .entry)) kind value (now (bytes .entry)) .refusal) ×
@@ -119,6 +122,48 @@ fn put_client_information(
             0
         }
     }
+}
+
+// What happened to an attempt: its last event answers, oldest first, each the number of a refusal or 0 for none; how many of
+// the places are used, the others are 0 and last; and the count of all events, which stops at 4,294,967,295. It is no event:
+// the record stays as it is. Refusal: 255 for a record that could not be an attempt's, which leaves all three as found.
+#[no_mangle]
+pub extern "C" fn qv_read_journal(
+    held: &Record,
+    answers: &mut [u8; PLACES],
+    used: &mut usize,
+    count: &mut u32,
+) -> u32
+    ensures answer { λ r. ⌜ r ≡ returned (journalAnswer (now (held .entry))) ⌝ }
+    ensures told { λ _. ⌜ now (answers .exit) ≡ leaving answersTold (journalAnswer (now (held .entry))) (now (answers .entry)) ⌝ }
+    ensures places { λ _. ⌜ now (used .exit) ≡ leaving usedTold (journalAnswer (now (held .entry))) (now (used .entry)) ⌝ }
+    ensures counted { λ _. ⌜ now (count .exit) ≡ leaving countTold (journalAnswer (now (held .entry))) (now (count .entry)) ⌝ }
+{
+    put_journal(*held, answers, used, count)
+}
+
+// The same of a record by value.
+fn put_journal(
+    held: Record,
+    answers: &mut [u8; PLACES],
+    used: &mut usize,
+    count: &mut u32,
+) -> u32
+    ensures answer { λ r. ⌜ r ≡ returned (journalAnswer held) ⌝ }
+    ensures told { λ _. ⌜ now (answers .exit) ≡ leaving answersTold (journalAnswer held) (now (answers .entry)) ⌝ }
+    ensures places { λ _. ⌜ now (used .exit) ≡ leaving usedTold (journalAnswer held) (now (used .entry)) ⌝ }
+    ensures counted { λ _. ⌜ now (count .exit) ≡ leaving countTold (journalAnswer held) (now (count .entry)) ⌝ }
+{
+    if !is_record(held) {
+        return NOT_VALID;
+    }
+    let journal = held.journal;
+    let told = tell(journal);
+    let noted = told.answers;
+    *answers = noted;
+    *used = told.used;
+    *count = told.count;
+    0
 }
 
 // A record with known values in every field, to compare the layout with.

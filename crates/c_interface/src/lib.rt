@@ -7,7 +7,7 @@ ghost use Prim.Native.Nat.{_≤_};
 ghost use Rattle.c_interface.specs.Layout.{interfaceVersion};
 ghost use Rattle.c_interface.specs.Numbers.{closeNumber, callOf, codeFor};
 
-pub mod attempts; // the attempt: start, events, own list, Version Information
+pub mod attempts; // the attempt: start, events, own list, Version Information, journal
 pub mod choices; // tables, pairs and choices
 pub mod transport; // variable-length integers, transport parameters
 pub mod wire; // headers, packets, Version Information
