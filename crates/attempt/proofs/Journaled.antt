@@ -108,7 +108,7 @@ module _ (a : Attempt) where
   outcome-known true rules u h = lowest-passing (closed a) (completed a u) Known unlike refl rules h
   outcome-known false rules u h = refl
 
-  answer-known : (e : Event) (bytes : List ℕ) → Known (stepOf a e bytes)
+  pub answer-known : (e : Event) (bytes : List ℕ) → Known (stepOf a e bytes)
   unfolding stepOf onDatagram onProcessed onOutcome
   answer-known Datagram bytes =
       lowest-passing (unchanged a) (actOn a (preferred (tableOf a) (listed bytes))) Known unlike
@@ -157,7 +157,7 @@ journal-on xs a (e ∷ es) h =
     ap journalOf (append-snoc xs n (answersTo (s .attempt) es))
 
 -- a start's record, accepted or refused, has the journal of no events
-start-journal : (x : Input) → startOf x .attempt .journal ≡ journalOf []
+pub start-journal : (x : Input) → startOf x .attempt .journal ≡ journalOf []
 unfolding startOf opened blank
 start-journal x =
     lowest-any refusedStart (openedStart x) (λ (s : Start). s .attempt .journal ≡ journalOf []) (λ n. refl) refl (startRules x)

@@ -2,7 +2,7 @@
 -- "Connection IDs match throughout; there are no pairs unless named." The two IDs differ in value and length.
 use Prim.Native.Nat.{ℕ, suc}
 use mathlib.Core.List.{List, [], _∷_, _++_, map}
-use mathlib.Core.Path.{_≡_, refl}
+use mathlib.Core.Path.{_≡_, refl, ap, _∙_}
 use lib.ListN.{length, replicate}
 use Rattle.refusals.specs.Close.{closeOf, codeIn}
 use Rattle.refusals.specs.Reply.{Reply, Reply.answered, refuse}
@@ -15,19 +15,23 @@ use Rattle.versions.specs.Version.{reserved, usable}
 use Rattle.versions.specs.Words.{entriesWhere, wordWhere, members}
 use Rattle.lists.specs.Wire.{entries, listBytes}
 use Rattle.invariants.specs.Header.{isReadableNegotiation}
+use Rattle.journal.specs.Journals.{lastAnswers, journalOf, noteOf}
+use Rattle.journal.proofs.Notes.{journal}
 use Rattle.information.specs.Information.{informationBytes}
 use Rattle.information.specs.declared.Presence.the-variants.{Missing, Given}
-use Rattle.attempt.specs.Attempt.{padded, ownOf}
-use Rattle.attempt.specs.Demand.{actedWith, firstOutcome, CompletedAgainst}
-use Rattle.attempt.specs.Events.{Handed, run}
-use Rattle.attempt.specs.Limits.{maxID}
+use Rattle.attempt.specs.Attempt.{padded, ownOf, isCompleted}
+use Rattle.attempt.specs.Demand.{actedWith, firstOutcome, CompletedAgainst, JournaledCompletedAgainst}
+use Rattle.attempt.specs.Events.{Handed, run, journaledRun}
+use Rattle.attempt.specs.Journaled.{journaledStep, journaledStepOfAny}
+use Rattle.attempt.specs.Limits.{maxID, notARecord}
 use Rattle.attempt.specs.OwnList.{ownList, wordOf, wordFor, rowsFor, mayBeAnswered}
 use Rattle.attempt.specs.Start.{Input, inputOf, startOf, opened, blank}
-use Rattle.attempt.specs.Step.{Effect, Effect.acts, Effect.completes, stepOf, onDatagram, onProcessed, onOutcome, same}
+use Rattle.attempt.specs.Step.{Effect, Effect.acts, Effect.completes, unchanged, stepOf, onDatagram, onProcessed, onOutcome, same}
 use Rattle.attempt.specs.declared.Attempt.{Attempt}
 use Rattle.attempt.specs.declared.End.{End}
 use Rattle.attempt.specs.declared.End.the-variants.{Completed, Closed, Open}
 use Rattle.attempt.specs.declared.Event.the-variants.{Datagram, PacketProcessed, Outcome}
+use Rattle.attempt.proofs.Journaled.{same-end}
 
 -- What a case shows: a choice from a list, or the answers to the events with the record after them
 data Shown : Type 0 where
@@ -78,12 +82,12 @@ missing inUse = record { event = Outcome inUse Missing; bytes = [] }
 answers : Attempt → List Handed → List (Reply Effect)
 answers a [] = []
 answers a (e ∷ es) =
-    stepOf a (e .event) (e .bytes) .reply ∷ answers (stepOf a (e .event) (e .bytes) .attempt) es
+    journaledStep a (e .event) (e .bytes) .reply ∷ answers (journaledStep a (e .event) (e .bytes) .attempt) es
 
 attempt : Input → List Handed → Shown
 attempt x es =
     let a : Attempt = startOf x .attempt in
-    let b : Attempt = run a es in
+    let b : Attempt = journaledRun a es in
     went (answers a es) (b .attempted) (ownOf b) (b .end)
 
 three : List ℕ
@@ -162,14 +166,14 @@ refusals =
 P1-to-P12 : map computed cases ≡ map expected cases
 unfolding computed expected ourDestination ourSource barring start packet outcome missing answers attempt three four cases
     closeOf codeIn table choose preferred paired pairKeepsRule eachPairKeepsRule pairsKeepRule elem entriesKeepRule
-    tableKeepsRule reserved usable entries listBytes isReadableNegotiation padded ownOf run members wordWhere wordOf wordFor
+    tableKeepsRule reserved usable entries listBytes isReadableNegotiation padded ownOf run journaledRun journaledStep members wordWhere wordOf wordFor
     rowsFor mayBeAnswered startOf opened blank stepOf onDatagram onProcessed onOutcome same
 P1-to-P12 = refl
 
 mixed-answers : answers (startOf (start three [] 12) .attempt) mixed ≡ refusals
 unfolding mixed refusals computed expected ourDestination ourSource barring start packet outcome missing answers attempt three
     four cases closeOf codeIn table choose preferred paired pairKeepsRule eachPairKeepsRule pairsKeepRule elem
-    entriesKeepRule tableKeepsRule reserved usable entries listBytes isReadableNegotiation padded ownOf run members
+    entriesKeepRule tableKeepsRule reserved usable entries listBytes isReadableNegotiation padded ownOf run journaledRun journaledStep members
     wordWhere wordOf wordFor rowsFor mayBeAnswered startOf opened blank stepOf onDatagram onProcessed onOutcome same
 mixed-answers = refl
 
@@ -225,7 +229,7 @@ P10-barred :
     replicate 2 ten-left-out
 unfolding ten-barring ten-left-out ourDestination ourSource barring packet outcome answers attempt closeOf codeIn table
     preferred paired pairKeepsRule eachPairKeepsRule pairsKeepRule elem entriesKeepRule tableKeepsRule reserved usable
-    entries listBytes isReadableNegotiation padded ownOf run members wordWhere wordOf wordFor rowsFor mayBeAnswered startOf
+    entries listBytes isReadableNegotiation padded ownOf run journaledRun journaledStep members wordWhere wordOf wordFor rowsFor mayBeAnswered startOf
     opened stepOf onDatagram onOutcome same
 P10-barred = refl
 
@@ -245,7 +249,7 @@ own-lists-barred = refl
 never-acted : map (λ (e : Handed). answers (startOf (start three [] 12) .attempt) (e ∷ [])) (missing 12 ∷ missing 1 ∷ [])
     ≡ (answered (completes 12) ∷ []) ∷ (refuse Reading 73 ∷ []) ∷ []
 unfolding ourDestination ourSource barring start missing answers three closeOf codeIn table eachPairKeepsRule pairsKeepRule
-    elem entriesKeepRule tableKeepsRule reserved usable padded ownOf members wordWhere wordOf wordFor rowsFor mayBeAnswered
+    elem entriesKeepRule tableKeepsRule reserved usable padded ownOf journaledStep members wordWhere wordOf wordFor rowsFor mayBeAnswered
     startOf opened stepOf onOutcome
 never-acted = refl
 
@@ -254,7 +258,7 @@ witness : CompletedAgainst (13 ∷ 14 ∷ []) (start three [] 12) mixed 14
 unfolding mixed actedWith firstOutcome computed expected ourDestination ourSource barring start packet outcome missing answers
     attempt three four cases closeOf codeIn table choose preferred paired pairKeepsRule eachPairKeepsRule
     pairsKeepRule elem entriesKeepRule tableKeepsRule reserved usable entries listBytes isReadableNegotiation padded
-    ownOf run members wordWhere wordOf wordFor rowsFor mayBeAnswered startOf opened blank stepOf onDatagram onProcessed
+    ownOf run journaledRun journaledStep members wordWhere wordOf wordFor rowsFor mayBeAnswered startOf opened blank stepOf onDatagram onProcessed
     onOutcome same
 witness =
     record {
@@ -268,3 +272,37 @@ witness =
       against = refl;
       holdsVersionInUse = refl;
     }
+
+-- The same over the steps that note (document 02, C-20)
+witness-journaled : JournaledCompletedAgainst (13 ∷ 14 ∷ []) (start three [] 12) mixed 14
+witness-journaled = record {
+  accepted = witness .accepted;
+  acted = witness .acted;
+  completed = ap isCompleted (same-end (startOf (start three [] 12) .attempt) mixed) ∙ witness .completed;
+  handshake = witness .handshake;
+  first = witness .first;
+  information = witness .information;
+  read = witness .read;
+  against = witness .against;
+  holdsVersionInUse = witness .holdsVersionInUse;
+}
+
+-- Its journal: every event is in it, those answered 61 to 64 and those after the end too. With two events more the two
+-- oldest answers are gone
+journals-of-mixed :
+    map (λ (more : List Handed). journaledRun (startOf (start three [] 12) .attempt) (mixed ++ more) .journal)
+    ([] ∷ (record { event = PacketProcessed; bytes = [] } ∷ record { event = Datagram; bytes = 0x40 ∷ [] } ∷ []) ∷ [])
+    ≡
+    journal (61 ∷ 63 ∷ 64 ∷ 0 ∷ 62 ∷ 0 ∷ 62 ∷ 62 ∷ []) 8 ∷
+    journal (64 ∷ 0 ∷ 62 ∷ 0 ∷ 62 ∷ 62 ∷ 62 ∷ 61 ∷ []) 10 ∷
+    []
+unfolding mixed ourDestination ourSource barring start packet outcome three preferred paired pairKeepsRule eachPairKeepsRule
+    pairsKeepRule elem entriesKeepRule tableKeepsRule reserved usable entries listBytes isReadableNegotiation padded
+    ownOf journaledRun journaledStep noteOf journalOf lastAnswers members wordWhere wordOf wordFor rowsFor mayBeAnswered startOf
+    opened stepOf onDatagram onProcessed onOutcome same
+journals-of-mixed = refl
+
+-- On the record of a refused start nothing is noted
+nothing-noted : journaledStepOfAny blank PacketProcessed [] ≡ unchanged blank notARecord
+unfolding journaledStepOfAny blank elem
+nothing-noted = refl

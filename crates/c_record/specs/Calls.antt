@@ -1,6 +1,6 @@
 -- Lists of event calls on a record, as C makes them, and demand 3's terms read from them.
 use Prim.Native.Nat.{ℕ}
-use mathlib.Core.Bool.{Bool}
+use mathlib.Core.Bool.{Bool, cond}
 use mathlib.Core.List.{List, [], _∷_}
 use mathlib.Core.Option.{Option, Option.none, Option.some}
 use lib.Dec.{eqb}
@@ -10,6 +10,7 @@ use Rattle.attempt.specs.Start.{Input}
 use Rattle.information.specs.declared.Presence.the-variants.{Missing, Given}
 use Rattle.attempt.specs.declared.Event.{Event}
 use Rattle.attempt.specs.declared.Event.the-variants.{Datagram, PacketProcessed, Outcome}
+use Rattle.c_record.specs.Numbers.{notValid}
 use Rattle.c_record.specs.Records.{eventOf, stepRecord, startRecord}
 use Rattle.c_record.specs.declared.Record.{Record}
 
@@ -23,6 +24,13 @@ pub record EventCall : Type 0 where
 unfoldable pub runCalls : Record → List EventCall → Record
 runCalls r [] = r
 runCalls r (c ∷ calls) = runCalls (stepRecord r (c .kind) (c .value) (c .bytes) .left) calls
+
+-- The numbers that the calls were answered with, in order. 255 is no answer of an event
+unfoldable pub numbersTo : Record → List EventCall → List ℕ
+numbersTo r [] = []
+numbersTo r (c ∷ calls) =
+    let s = stepRecord r (c .kind) (c .value) (c .bytes) in
+    cond (eqb (s .refusal) notValid) (numbersTo (s .left) calls) (s .refusal ∷ numbersTo (s .left) calls)
 
 -- The events of the calls; a call of an unknown kind is none
 abbrev pub eventBefore : Option Event → List ℕ → List Handed → List Handed
