@@ -929,6 +929,113 @@ static void reserved_numbers(void)
                                         sizeof packet, &end) == QV_BAD_RESERVED_IN_PACKET);
 }
 
+/* The lines that were logged, one after the other. */
+static char logged[2048];
+
+void log_line(const char *text)
+{
+    EXPECT(strlen(logged) + strlen(text) + 2 <= sizeof logged);
+    strcat(logged, text);
+    strcat(logged, "\n");
+}
+
+static int was_logged(const char *lines)
+{
+    int same = strcmp(logged, lines) == 0;
+
+    if (!same)
+        fprintf(stderr, "logged:\n%s", logged);
+    logged[0] = 0;
+    return same;
+}
+
+/* A client that was led to 10 and answers 75, with a stray datagram, and a packet too late. */
+static struct qv_attempt downgraded(void)
+{
+    static const uint32_t all[] = {14, 12, 10};
+    struct qv_attempt attempt = attempting();
+    uint8_t parameters[64];
+
+    client_datagram(&attempt, NULL, 0);
+    negotiation_with(&attempt, 10, source, destination);
+    negotiation_with(&attempt, 14, source, destination);
+    client_handshake_done(&attempt, 10, parameters, parameters_of(parameters, 10, all, 3));
+    EXPECT(was_asked("keep flight report close ") && asked_code == QV_VERSION_NEGOTIATION_ERROR);
+    return attempt;
+}
+
+/* What is logged of it. */
+static const char lines_of_downgraded[] =
+    "attempt in 0x0000000a: closed: the server's Available Versions lead to another choice than "
+    "the attempted version (75); events: 4\n"
+    "event 1: 61 the datagram is no readable Version Negotiation packet\n"
+    "event 2: 0 no refusal\n"
+    "event 3: 62 the attempt has ended, or acted or heard before this Version Negotiation packet\n"
+    "event 4: 75 the server's Available Versions lead to another choice than the attempted "
+    "version\n";
+
+/* The page's lines: at an end, before a new start in the same place, and of no attempt. */
+static void logging(void)
+{
+    static const struct information missing = {QV_MISSING, NULL, 0};
+    struct qv_attempt attempt = attempting();
+
+    log_attempt(&attempt);
+    EXPECT(was_logged("attempt in 0x0000000c: open; events: 0\n"));
+    client_packet_processed(&attempt);
+    client_outcome(&attempt, 12, missing);
+    EXPECT(was_asked("connected "));
+    log_attempt(&attempt);
+    EXPECT(was_logged("attempt in 0x0000000c: completed with 0x0000000c; events: 2\n"
+                      "event 1: 0 no refusal\nevent 2: 0 no refusal\n"));
+
+    attempt = downgraded();
+    log_attempt(&attempt);
+    EXPECT(was_logged(lines_of_downgraded));
+    EXPECT(client_start_again(&attempt, destination, sizeof destination, source, sizeof source));
+    EXPECT(was_logged(lines_of_downgraded) && was_asked("flight ") && attempt.journal.count == 0);
+
+    /* A start that is refused: the old attempt stays, and its journal. */
+    attempt = downgraded();
+    EXPECT(!client_start_again(&attempt, destination, QV_MAX_ID + 1, source, 0));
+    EXPECT(was_logged(lines_of_downgraded) && was_asked("fault ") && attempt.journal.count == 4);
+
+    /* No record of qv_start: 255, which is a fault and no line. */
+    attempt.table_len = QV_MAX_TABLE + 1;
+    log_attempt(&attempt);
+    EXPECT(was_logged("") && was_asked("fault ") && attempt.journal.count == 4);
+}
+
+/* What the page warns of: a flood, a journal that is read late, and the count at its stop. */
+static void logging_late(void)
+{
+    struct qv_attempt attempt = downgraded(), found = attempt;
+    size_t i;
+
+    /* Ignored datagrams change the journal alone, and records are compared by their fields. */
+    for (i = 0; i < QV_JOURNAL_PLACES; i++)
+        client_datagram(&attempt, NULL, 0);
+    EXPECT(was_asked("") && memcmp(&attempt, &found, sizeof found) != 0);
+    EXPECT(attempt.end_mark == QV_CLOSED && attempt.end_value == QV_DOWNGRADED);
+    for (i = 0; i < QV_JOURNAL_PLACES; i++)
+        EXPECT(attempt.journal.answers[i] == QV_NOT_VERSION_NEGOTIATION);
+    EXPECT(attempt.journal.count == 4 + QV_JOURNAL_PLACES);
+    found.journal = attempt.journal;
+    EXPECT(memcmp(&attempt, &found, sizeof found) == 0);
+
+    /* No test makes so many events: the count is written by hand. */
+    attempt.journal.count = QV_MAX_EVENTS - 1;
+    log_attempt(&attempt);
+    EXPECT(strstr(logged, "; events: 4294967294\nevent 4294967287: 61 ") != NULL);
+    EXPECT(strstr(logged, "\nevent 4294967294: 61 ") != NULL);
+    logged[0] = 0;
+    client_packet_processed(&attempt);
+    log_attempt(&attempt);
+    EXPECT(strstr(logged, "; events: 4294967295 or more\nevent: 61 ") != NULL);
+    EXPECT(strstr(logged, "\nevent: 62 ") != NULL && strstr(logged, "event 4") == NULL);
+    logged[0] = 0;
+}
+
 int main(void)
 {
     client();
@@ -941,6 +1048,8 @@ int main(void)
     barring();
     barring_wrongly();
     reserved_numbers();
+    logging();
+    logging_late();
     missing_is_neither_empty_nor_refused();
     faults_of_the_stack();
     room_to_write();

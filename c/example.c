@@ -1,7 +1,7 @@
 /*
  * A client and a server walk-through of quic_version.h, both with flights that do not convert to
  * every version and with reserved numbers, lists as words, transport parameters, the record's
- * layout, and NULL with length 0.
+ * layout, the journal of an attempt, and NULL with length 0.
  * After `scripts/install PREFIX`, with PREFIX/lib/pkgconfig in PKG_CONFIG_PATH:
  *
  *     gcc -std=c99 example.c $(pkg-config --cflags --libs quic-version) -o example
@@ -30,8 +30,12 @@ FOLLOWS(acted, attempted);
 FOLLOWS(heard, acted);
 FOLLOWS(end_mark, heard);
 FOLLOWS(end_value, end_mark);
-FOLLOWS(unused, end_value);
-ASSERT_LAYOUT(unused_last, sizeof(struct qv_attempt) == PAST(unused));
+FOLLOWS(journal, end_value);
+ASSERT_LAYOUT(journal_last, sizeof(struct qv_attempt) == PAST(journal));
+ASSERT_LAYOUT(attempt_size, sizeof(struct qv_attempt) == 12 * QV_MAX_TABLE + 2 * QV_MAX_ID + 48);
+ASSERT_LAYOUT(answers_first, offsetof(struct qv_journal, answers) == 0);
+ASSERT_LAYOUT(count_follows, offsetof(struct qv_journal, count) == QV_JOURNAL_PLACES);
+ASSERT_LAYOUT(journal_size, sizeof(struct qv_journal) == QV_JOURNAL_PLACES + 4);
 ASSERT_LAYOUT(refusal_follows, offsetof(struct qv_started, refusal) == sizeof(struct qv_attempt));
 ASSERT_LAYOUT(started_size, sizeof(struct qv_started) == sizeof(struct qv_attempt) + 8);
 ASSERT_LAYOUT(pair_size, sizeof(struct qv_pair) == 8);
@@ -57,7 +61,7 @@ static void layout(void)
     size_t i;
 
     EXPECT(qv_interface_version() == QV_INTERFACE_VERSION);
-    EXPECT(qv_interface_8() == QV_INTERFACE_VERSION);
+    EXPECT(qv_interface_9() == QV_INTERFACE_VERSION);
     EXPECT(qv_record_size() == sizeof(struct qv_attempt));
     for (i = 0; i < QV_MAX_TABLE; i++) {
         EXPECT(record.rows[i] == UINT64_C(0x1112131415161718));
@@ -76,7 +80,10 @@ static void layout(void)
     EXPECT(record.heard == 0x47);
     EXPECT(record.end_mark == 0x48);
     EXPECT(record.end_value == 0x49);
-    EXPECT(record.unused == 0x4a);
+    for (i = 0; i < QV_JOURNAL_PLACES; i++) {
+        EXPECT(record.journal.answers[i] == 0x51);
+    }
+    EXPECT(record.journal.count == 0x52);
 }
 
 /* A first flight in version 12: what the version layer reads of it, a byte, and zeros. */
@@ -422,15 +429,19 @@ static void null_with_length_0_as_parameters(void)
     EXPECT(found == QV_GIVEN && from == 2 && to == 2);
 }
 
-/* Every call refuses this record with 255, and leaves it as found. */
+/* Every call refuses this record with 255, and leaves it as found, its journal too. */
 static void no_attempt(struct qv_attempt attempt)
 {
     static const uint8_t information[] = {0, 0, 0, 1, 0, 0, 0, 1};
+    static const uint8_t sevens[QV_JOURNAL_PLACES] = {7, 7, 7, 7, 7, 7, 7, 7};
     const struct qv_attempt found = attempt;
-    uint32_t own[QV_MAX_TABLE] = {7};
-    uint8_t buffer[8] = {7};
-    size_t count = 7;
+    uint32_t own[QV_MAX_TABLE] = {7}, events = 7;
+    uint8_t buffer[8] = {7}, answers[QV_JOURNAL_PLACES];
+    size_t count = 7, used = 7;
 
+    memcpy(answers, sevens, sizeof answers);
+    EXPECT(qv_read_journal(&attempt, answers, &used, &events) == QV_NOT_VALID);
+    EXPECT(memcmp(answers, sevens, sizeof answers) == 0 && used == 7 && events == 7);
     EXPECT(qv_datagram(&attempt, first_flight, sizeof first_flight) == QV_NOT_VALID);
     EXPECT(qv_packet_processed(&attempt) == QV_NOT_VALID);
     EXPECT(qv_outcome(&attempt, 1, information, sizeof information) == QV_NOT_VALID);
@@ -612,6 +623,109 @@ static void bad_barred_pairs(void)
     EXPECT(start_barring(barred, QV_MAX_PAIRS + 1).refusal == QV_BAD_PAIRS);
 }
 
+/* The journal of an attempt is these answers, and so many events were counted. */
+static void journals(const struct qv_attempt *attempt, const uint8_t *answers, size_t answers_len,
+                     uint32_t events)
+{
+    const struct qv_attempt found = *attempt;
+    uint8_t kept[QV_JOURNAL_PLACES];
+    size_t used = SIZE_MAX, i;
+    uint32_t count = 77;
+
+    memset(kept, 0x77, sizeof kept);
+    EXPECT(qv_read_journal(attempt, kept, &used, &count) == QV_OK);
+    EXPECT(used == answers_len && count == events);
+    for (i = 0; i < QV_JOURNAL_PLACES; i++) {
+        EXPECT(kept[i] == (i < used ? answers[i] : 0));
+    }
+    EXPECT(memcmp(attempt, &found, sizeof found) == 0);
+}
+
+/* Every event is noted: ignored ones, and those after the end. The last eight are kept. */
+static void journal(void)
+{
+    /* Other connection IDs; then 12, the Original Version; then 14, on which the attempt acts. */
+    static const uint8_t other[] = {0xc0, 0, 0, 0, 0, 1, 0xcd, 2, 0xaa, 0xbb, 0, 0, 0, 14};
+    static const uint8_t listed[] = {0xc0, 0, 0, 0, 0, 1, 0xcc, 2, 0xaa, 0xbb, 0, 0, 0, 12};
+    static const uint8_t packet[] = {0xc0, 0, 0, 0, 0, 1, 0xcc, 2, 0xaa, 0xbb, 0, 0, 0, 14};
+    static const uint8_t authenticated[] = {0, 0, 0, 14, 0, 0, 0, 14};
+    /* All that follow, in their order. */
+    static const uint8_t all[] = {61, 63, 64, 0, 62, 0, 0, 62, 61, 62, 62};
+    struct qv_attempt attempt = start(), found;
+
+    journals(&attempt, all, 0, 0);
+    EXPECT(qv_datagram(&attempt, NULL, 0) == QV_NOT_VERSION_NEGOTIATION);
+    journals(&attempt, all, 1, 1);
+    EXPECT(qv_datagram(&attempt, other, sizeof other) == QV_OTHER_CONNECTION);
+    EXPECT(qv_datagram(&attempt, listed, sizeof listed) == QV_LISTS_ORIGINAL);
+    journals(&attempt, all, 3, 3);
+    /* Nothing else has changed. */
+    found = start();
+    found.journal = attempt.journal;
+    EXPECT(memcmp(&attempt, &found, sizeof attempt) == 0);
+
+    EXPECT(qv_datagram(&attempt, packet, sizeof packet) == QV_OK);
+    EXPECT(qv_datagram(&attempt, packet, sizeof packet) == QV_TOO_LATE);
+    EXPECT(qv_packet_processed(&attempt) == QV_OK);
+    EXPECT(qv_outcome(&attempt, 14, authenticated, sizeof authenticated) == QV_OK);
+    journals(&attempt, all, 7, 7);
+
+    /* After the end, up to eight and past them. */
+    EXPECT(qv_packet_processed(&attempt) == QV_TOO_LATE);
+    journals(&attempt, all, 8, 8);
+    EXPECT(qv_datagram(&attempt, packet, 9) == QV_NOT_VERSION_NEGOTIATION);
+    journals(&attempt, all + 1, 8, 9);
+    EXPECT(qv_outcome(&attempt, 14, authenticated, 3) == QV_TOO_LATE);
+    EXPECT(qv_outcome_without_information(&attempt, 14) == QV_TOO_LATE);
+    journals(&attempt, all + 3, 8, 11);
+    EXPECT(attempt.end_mark == QV_COMPLETED && attempt.end_value == 14);
+
+    /* An unknown kind is no event. */
+    EXPECT(qv_event(&attempt, 4, 14, packet, sizeof packet) == QV_NOT_VALID);
+    journals(&attempt, all + 3, 8, 11);
+
+    /* Reading and writing are none either. */
+    owns(&attempt, &found.table[0], 1);
+    journals(&attempt, all + 3, 8, 11);
+
+    /* Starting again empties it. */
+    attempt = start();
+    journals(&attempt, all, 0, 0);
+}
+
+/* An ending is noted with its number. */
+static void journal_of_an_ending(void)
+{
+    static const uint8_t nothing[] = {0xc0, 0, 0, 0, 0, 1, 0xcc, 2, 0xaa, 0xbb, 0, 0, 0, 13};
+    static const uint8_t answers[] = {QV_NO_VERSION_LEFT, QV_TOO_LATE};
+    static const uint8_t closed[] = {QV_CHOSEN_NOT_IN_USE};
+    struct qv_attempt attempt = start();
+
+    EXPECT(qv_datagram(&attempt, nothing, sizeof nothing) == QV_NO_VERSION_LEFT);
+    EXPECT(qv_packet_processed(&attempt) == QV_TOO_LATE);
+    journals(&attempt, answers, 2, 2);
+    attempt = start();
+    EXPECT(qv_outcome_without_information(&attempt, 14) == QV_CHOSEN_NOT_IN_USE);
+    journals(&attempt, closed, 1, 1);
+}
+
+/* The count stops, while the answers go on. Here the journal is written by hand, near the stop. */
+static void journal_at_its_stop(void)
+{
+    static const uint8_t answers[] = {31, 32, 33, 34, 35, 61, 62, 63, 0, 61, 0};
+    struct qv_attempt attempt = start();
+
+    memcpy(attempt.journal.answers, answers, QV_JOURNAL_PLACES);
+    attempt.journal.count = QV_MAX_EVENTS - 1;
+    journals(&attempt, answers, 8, QV_MAX_EVENTS - 1);
+    EXPECT(qv_packet_processed(&attempt) == QV_OK);
+    journals(&attempt, answers + 1, 8, QV_MAX_EVENTS);
+    EXPECT(qv_datagram(&attempt, NULL, 0) == QV_NOT_VERSION_NEGOTIATION);
+    journals(&attempt, answers + 2, 8, QV_MAX_EVENTS);
+    EXPECT(qv_packet_processed(&attempt) == QV_OK);
+    journals(&attempt, answers + 3, 8, QV_MAX_EVENTS);
+}
+
 /* Records that could not be an attempt's, and kinds that the header does not name: 255. */
 static void not_valid(void)
 {
@@ -624,11 +738,15 @@ static void not_valid(void)
     attempt.table_len = QV_MAX_TABLE + 1;
     no_attempt(attempt);
     attempt = start();
+    EXPECT(qv_packet_processed(&attempt) == QV_OK);
+    EXPECT(qv_datagram(&attempt, NULL, 0) == QV_NOT_VERSION_NEGOTIATION);
     attempt.attempted = 13;
     no_attempt(attempt);
     memset(&attempt, 0, sizeof attempt);
     no_attempt(attempt);
-    no_attempt(qv_start(one, 0, NULL, 0, NULL, 0, 1, NULL, 0, NULL, 0).attempt);
+    attempt = qv_start(one, 0, NULL, 0, NULL, 0, 1, NULL, 0, NULL, 0).attempt;
+    no_attempt(attempt);
+    EXPECT(attempt.journal.count == 0 && attempt.journal.answers[0] == 0);
     attempt = start();
     found = attempt;
     EXPECT(qv_event(&attempt, 4, 0, NULL, 0) == QV_NOT_VALID);
@@ -1053,6 +1171,9 @@ int main(void)
     bad_barred_pairs();
     client_reserved();
     bad_reserved_in_list();
+    journal();
+    journal_of_an_ending();
+    journal_at_its_stop();
     null_with_length_0();
     null_with_length_0_as_words();
     null_with_length_0_as_parameters();

@@ -3,8 +3,9 @@
  *
  * Every function answers for every input. A refusal is a number of document 01's table, 0 is none;
  * a result goes into a place that the caller lends, and a refusal leaves every such place as found.
- * QV_NOT_VALID (255) is outside that table: an unknown kind, or a record that could not be an
- * attempt's.
+ * The record of an attempt is changed where it lies: an event notes its answer there, a refusal too
+ * (struct qv_journal). QV_NOT_VALID (255) is outside that table: an unknown kind, or a record that
+ * could not be an attempt's. With it all is left as found, the record too.
  *
  * What no proof covers, and the caller has to see to:
  *  - a pointer is valid for the length given with it, and for the size of what it points to;
@@ -33,7 +34,7 @@ extern "C" {
 
 /* The release, and the interface that this header describes. */
 #define QV_RELEASE "0.1.0"
-#define QV_INTERFACE_VERSION 8u
+#define QV_INTERFACE_VERSION 9u
 
 /* On a function that answers a refusal: the compiler warns where the answer is not looked at. */
 #if defined(__GNUC__)
@@ -56,6 +57,8 @@ extern "C" {
 #define QV_MAX_AVAILABLE 255u       /* Available Versions */
 #define QV_MAX_SEQUENCE 16384u      /* bytes of a sequence of transport parameters */
 #define QV_MAX_PARAMETERS 64u       /* parameters of a sequence */
+#define QV_JOURNAL_PLACES 8u        /* answers that a journal keeps */
+#define QV_MAX_EVENTS 4294967295u   /* events that a journal counts, 2^32 - 1 */
 /* A variable-length integer: 2^62 - 1 (RFC 9000 section 16). */
 #define QV_MAX_INTEGER UINT64_C(0x3fffffffffffffff)
 /* The fewest bytes of a datagram that is answered with a packet (RFC 9000 section 14.1). */
@@ -140,15 +143,36 @@ struct qv_reserved {
 };
 
 /*
+ * What happened to an attempt: the answers of its last events, and the count of all of them. It is
+ * read by qv_read_journal.
+ *
+ * Every event is noted, those that are refused with 61 to 64 and those after the end too. 255 is no
+ * answer of an event, and is not noted. The last QV_JOURNAL_PLACES answers are kept, oldest first:
+ * 0 for no refusal, else the number of the refusal. Places that no event has filled yet are 0, and
+ * last. The count stops at QV_MAX_EVENTS; the answers go on. A start hands back an empty journal.
+ *
+ * Nothing of it is judged. Whatever it holds, an event notes its answer in this way: at the place
+ * `count`, if that is below QV_JOURNAL_PLACES, and the other places stay; else the first answer
+ * goes out, the others move down by one, and the new one is last. Then the count grows by one, if
+ * it has not stopped.
+ */
+struct qv_journal {
+    uint8_t answers[QV_JOURNAL_PLACES];
+    uint32_t count;
+};
+
+/*
  * The record of one attempt. Make it with qv_start, change it with qv_event alone. To read:
- * `attempted` (the version to attempt now), `acted`, `heard`, `end_mark` and `end_value`.
+ * `attempted` (the version to attempt now), `acted`, `heard`, `end_mark` and `end_value`; and the
+ * journal, by qv_read_journal.
  *
  * What is judged of a record, by every call that takes one (else QV_NOT_VALID, and all is left as
  * found): the three counts are within their arrays, the flags are 0 or 1, end_mark is one of the
- * three below with a value that fits it (0; any; up to 255), unused is 0, and the attempted version
- * is in the table. So zeroed memory and the record of a refused start are QV_NOT_VALID, and no
- * event on any record completes it with a version outside its table. What is not judged: that
- * table, rows, IDs and Original Version are those of one start.
+ * three below with a value that fits it (0; any; up to 255), and the attempted version is in the
+ * table. So zeroed memory and the record of a refused start are QV_NOT_VALID, and no event on any
+ * record completes it with a version outside its table. What is not judged: that table, rows, IDs
+ * and Original Version are those of one start; and the journal, which no call but qv_read_journal
+ * reads for its answer.
  */
 struct qv_attempt {
     uint64_t rows[QV_MAX_TABLE];
@@ -164,7 +188,7 @@ struct qv_attempt {
     uint32_t heard;
     uint32_t end_mark;
     uint32_t end_value;
-    uint32_t unused;
+    struct qv_journal journal;
 };
 
 /* end_mark, with what end_value holds. */
@@ -186,7 +210,7 @@ uint32_t qv_interface_version(void);
  * that a library with another interface does not link (with GCC and Clang; else compare
  * qv_interface_version() with QV_INTERFACE_VERSION at the start).
  */
-uint32_t qv_interface_8(void);
+uint32_t qv_interface_9(void);
 #if defined(__GNUC__)
 #if defined(__has_attribute)
 #if __has_attribute(retain)
@@ -196,7 +220,7 @@ uint32_t qv_interface_8(void);
 #ifndef QV_KEPT
 #define QV_KEPT __attribute__((used))
 #endif
-static uint32_t (*const qv_linked_interface)(void) QV_KEPT = qv_interface_8;
+static uint32_t (*const qv_linked_interface)(void) QV_KEPT = qv_interface_9;
 #endif
 
 /* sizeof(struct qv_attempt) as the library has it. */
@@ -449,6 +473,8 @@ uint32_t qv_server_choice(const uint32_t *readable, size_t readable_len, const u
  * they are neither turned round nor chained, and are read for the version that is attempted at the
  * time, which need not be the Original Version. One that is not among the pairs has no effect.
  * Refusals, in order: 41, 43 (pairs or barred pairs), 44, 45. The record is then no attempt.
+ * The journal of the record is empty, all 0, refused or not. So a start that is put in the place of
+ * an earlier attempt loses what had happened to that.
  */
 QV_CHECKED
 struct qv_started qv_start(const uint32_t *table, size_t table_len, const struct qv_pair *pairs,
@@ -460,13 +486,15 @@ struct qv_started qv_start(const uint32_t *table, size_t table_len, const struct
  * One event on a record, in place. `value` is the version in use of an outcome, and is not read
  * else; `bytes` is the datagram, or the Version Information of QV_OUTCOME, and is not read else.
  * Refusals, in order:
- *   any event: 255, and the record is left as found;
- *   a datagram: 61, 62, 63, 64, and the record is left as found; 65 ends the attempt;
- *   a processed packet: 62, and the record is left as found;
- *   an outcome: 62, and the record is left as found; 31 to 35 and 71 to 75 end the attempt.
- * An ending changes end_mark and end_value alone.
+ *   any event: 255, and the record is left as found, its journal too;
+ *   a datagram: 61, 62, 63, 64, which change the journal alone; 65 ends the attempt;
+ *   a processed packet: 62, which changes the journal alone;
+ *   an outcome: 62, which changes the journal alone; 31 to 35 and 71 to 75 end the attempt.
+ * An ending changes end_mark, end_value and the journal alone.
  * Else 0: after a datagram the attempt acted, and `attempted` is the version to attempt now; after
  * an outcome the attempt has completed.
+ * Every answer but 255 is noted in the journal. What an event answers, and what it does to the rest
+ * of the record, does not depend on the journal.
  */
 #define QV_DATAGRAM 0u                    /* a datagram came */
 #define QV_PACKET_PROCESSED 1u            /* a genuine packet other than Version Negotiation */
@@ -488,6 +516,22 @@ uint32_t qv_event(struct qv_attempt *attempt, uint32_t kind, uint32_t value, con
 QV_CHECKED
 uint32_t qv_own_list(const struct qv_attempt *attempt, uint32_t versions[QV_MAX_TABLE],
                      size_t *count);
+
+/*
+ * Reads the journal of an attempt: what its events were answered with.
+ * This is no event. The record is only read, and the attempt may have ended; neither the answers
+ * nor *used nor *count lies in the record.
+ * Refusal: 255 (see struct qv_attempt), which leaves answers, used and count as found.
+ * Else: all QV_JOURNAL_PLACES answers are written as the record has them, oldest first; the first
+ * *used of them are answers of events, and in an attempt's record the others are 0. *count is the
+ * count of all events, and *used the lesser of it and QV_JOURNAL_PLACES.
+ * So answers[i], with i below *used, is that of event *count - *used + 1 + i, counted from 1, where
+ * *count is below QV_MAX_EVENTS. At QV_MAX_EVENTS there were so many events or more, and nobody can
+ * tell which of them these are.
+ */
+QV_CHECKED
+uint32_t qv_read_journal(const struct qv_attempt *attempt, uint8_t answers[QV_JOURNAL_PLACES],
+                         size_t *used, uint32_t *count);
 
 /*
  * Writes the client's Version Information from its record: the attempted version as Chosen, then

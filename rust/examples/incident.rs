@@ -26,20 +26,43 @@ fn main() -> Result<(), Box<dyn Error>> {
     println!("Version 10 is old and weak. Both ends would meet in 12 or 14.");
 
     title("1. The attack, and a server that sends an empty list");
-    let mut attempt = first_flight()?;
-    forged_packet(&mut attempt)?;
-    handshake(&mut attempt, &[])?;
+    let mut first = first_flight()?;
+    forged_packet(&mut first)?;
+    handshake(&mut first, &[])?;
 
     title("2. The same attack, and a server that sends its list");
-    let mut attempt = first_flight()?;
-    forged_packet(&mut attempt)?;
-    handshake(&mut attempt, &SERVER_TABLE)?;
+    let mut second = first_flight()?;
+    forged_packet(&mut second)?;
+    handshake(&mut second, &SERVER_TABLE)?;
 
     title("3. No attack: an old server that has 13 and 10 only");
-    let mut attempt = first_flight()?;
-    honest_packet(&mut attempt, &[13, 10])?;
-    handshake(&mut attempt, &[13, 10])?;
+    let mut third = first_flight()?;
+    honest_packet(&mut third, &[13, 10])?;
+    handshake(&mut third, &[13, 10])?;
+
+    title("What happened to each client, from its journal");
+    for (place, attempt) in (1..).zip([&first, &second, &third]) {
+        journal(place, attempt);
+    }
     Ok(())
+}
+
+/// What the night staff reads: how the attempt ended, and what its events were answered with.
+fn journal(place: usize, attempt: &Attempt) {
+    let end = match attempt.end() {
+        End::Open => String::from("is open"),
+        End::Completed(version) => format!("has completed with version {}", version),
+        End::Closed(refusal) => format!("has closed with {}", refusal.number()),
+    };
+    let journal = attempt.journal();
+    let events = journal.count();
+    step(
+        &format!("client {}", place),
+        &format!("{} after {} events", end, events),
+    );
+    for line in journal.to_string().lines() {
+        note(line);
+    }
 }
 
 /// The client sends its first flight in version 12.

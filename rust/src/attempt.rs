@@ -1,9 +1,9 @@
 //! The client's attempt, from its first version to its end.
 
-use crate::ffi::{self, Record, MAX_TABLE};
+use crate::ffi::{self, Record, JOURNAL_PLACES, MAX_TABLE};
 use crate::refusal::{answer, written};
 use crate::shown::{List, Version};
-use crate::{Pair, Refusal, WriteRefusal};
+use crate::{Journal, Pair, Refusal, WriteRefusal};
 use std::fmt;
 use std::ops::Deref;
 
@@ -62,11 +62,15 @@ impl fmt::Debug for Reserved {
 }
 
 /// One attempt of a client: its table, pairs, barred pairs, Original Version and connection IDs,
-/// the version that it attempts now, and its end.
+/// the version that it attempts now, its end, and its journal.
 ///
 /// Only [`Attempt::start`] and [`Attempt::start_barring`] make one and only its events change it,
 /// so that every attempt is what the proofs are about. It holds no pointer and no lock; one thread
 /// at a time may change it.
+///
+/// Every event notes its answer in the [`Attempt::journal`], a refused one too. So an event that
+/// "changes the journal alone" leaves all else as found, and two attempts are equal only where
+/// their journals are.
 #[derive(Clone, PartialEq, Eq)]
 pub struct Attempt {
     // What a start handed back, changed since by events alone.
@@ -78,7 +82,8 @@ impl Attempt {
     /// `destination` and `source` are the connection IDs that the first flight goes out with (0 to
     /// 20 bytes each; empty or equal ones are allowed).
     ///
-    /// The attempt is open and attempts `original`.
+    /// The attempt is open and attempts `original`. Its journal is empty: what happened to an
+    /// earlier attempt goes with that.
     ///
     /// # Errors
     ///
@@ -143,16 +148,12 @@ impl Attempt {
     ///
     /// # Errors
     ///
-    /// In this order:
-    /// - [`NotVersionNegotiation`](Refusal::NotVersionNegotiation) (61), which leaves the attempt
-    ///   as found: any other packet. Hand it on to packet protection if it has the short form, or a
-    ///   version of the own list;
-    /// - [`TooLate`](Refusal::TooLate) (62), which leaves it as found: the attempt has ended, or
-    ///   acted or heard before;
-    /// - [`OtherConnection`](Refusal::OtherConnection) (63), which leaves it as found: the packet's
-    ///   IDs are not ours, swapped;
-    /// - [`ListsOriginal`](Refusal::ListsOriginal) (64), which leaves it as found: the packet lists
-    ///   the Original Version;
+    /// The first four change the journal alone. In this order:
+    /// - [`NotVersionNegotiation`](Refusal::NotVersionNegotiation) (61): any other packet. Hand it
+    ///   on to packet protection if it has the short form, or a version of the own list;
+    /// - [`TooLate`](Refusal::TooLate) (62): the attempt has ended, or acted or heard before;
+    /// - [`OtherConnection`](Refusal::OtherConnection) (63): the packet's IDs are not ours, swapped;
+    /// - [`ListsOriginal`](Refusal::ListsOriginal) (64): the packet lists the Original Version;
     /// - [`NoVersionLeft`](Refusal::NoVersionLeft) (65), which ends the attempt: nothing in common.
     pub fn datagram(&mut self, datagram: &[u8]) -> Result<u32, Refusal> {
         let number = ffi::event(&mut self.record, DATAGRAM, 0, datagram);
@@ -165,8 +166,8 @@ impl Attempt {
     ///
     /// # Errors
     ///
-    /// [`TooLate`](Refusal::TooLate) (62), which leaves the attempt as found: it has ended. Twice
-    /// on an open attempt is no refusal.
+    /// [`TooLate`](Refusal::TooLate) (62), which changes the journal alone: the attempt has ended.
+    /// Twice on an open attempt is no refusal.
     pub fn packet_processed(&mut self) -> Result<(), Refusal> {
         let number = ffi::event(&mut self.record, PACKET_PROCESSED, 0, &[]);
         answer(number, || ())
@@ -178,7 +179,7 @@ impl Attempt {
     ///
     /// # Errors
     ///
-    /// The first leaves the attempt as found, all others end it: close the connection with
+    /// The first changes the journal alone, all others end the attempt: close the connection with
     /// [`Refusal::close_code`]. In this order:
     /// - [`TooLate`](Refusal::TooLate) (62): it has ended before;
     /// - 31 to 35: the information is malformed, see [`read_information`](crate::read_information);
@@ -252,6 +253,44 @@ impl Attempt {
         own
     }
 
+    /// What happened to the attempt: the answers of its last [`JOURNAL_PLACES`](crate::JOURNAL_PLACES)
+    /// events, oldest first, and the count of all events. Every event is noted, those that were
+    /// refused with 61 to 64 and those after the end too.
+    ///
+    /// This is no event: the attempt stays as it is, and may have ended. The journal is for the log.
+    /// How the attempt stands is told by [`Attempt::end`], and whatever came with an unprotected
+    /// datagram may be anybody's.
+    ///
+    /// ```
+    /// # use quic_version::{Attempt, Refusal};
+    /// let mut attempt = Attempt::start(&[14, 12], &[], 12, &[0xd1], &[0x51])?;
+    /// assert!(attempt.journal().is_empty());
+    /// attempt.datagram(&[]).unwrap_err();
+    /// attempt.outcome(12, None)?;
+    /// attempt.packet_processed().unwrap_err();
+    ///
+    /// let journal = attempt.journal();
+    /// assert_eq!(journal.count(), 3);
+    /// assert!(journal.iter().map(|answer| answer.number()).eq([61, 0, 62]));
+    /// println!("{}", journal);
+    /// // event 1: 61 the datagram is no readable Version Negotiation packet
+    /// // event 2: 0 no refusal
+    /// // event 3: 62 the attempt has ended, or acted or heard before this Version Negotiation packet
+    /// # Ok::<(), Refusal>(())
+    /// ```
+    pub fn journal(&self) -> Journal {
+        let mut journal = Journal {
+            answers: [0; JOURNAL_PLACES],
+            used: 0,
+            count: 0,
+        };
+        let (answers, used) = (&mut journal.answers, &mut journal.used);
+        // No refusal: every attempt is a record that an attempt has.
+        let number = ffi::read_journal(&self.record, answers, used, &mut journal.count);
+        debug_assert_eq!(number, 0);
+        journal
+    }
+
     /// Writes the client's Version Information: the attempted version as Chosen, then the own list
     /// as sent. Each reserved number stands at its place; the entries of the own list, in their
     /// order, fill the other places. Reserved numbers test that a server ignores versions that it
@@ -303,6 +342,7 @@ impl fmt::Debug for Attempt {
             .field("acted", &self.acted())
             .field("heard", &self.heard())
             .field("end", &self.end())
+            .field("journal", &self.journal())
             .finish_non_exhaustive()
     }
 }

@@ -14,6 +14,19 @@ use std::mem::{align_of, size_of};
 pub const MAX_TABLE: usize = 64;
 /// Bytes of an attempt's connection ID.
 pub const MAX_ID: usize = 20;
+/// Answers that a journal keeps.
+pub const JOURNAL_PLACES: usize = 8;
+
+/// `struct qv_journal`.
+#[repr(C)]
+#[derive(Clone, Copy, Debug, Default, PartialEq, Eq)]
+pub struct Journal {
+    /// The numbers of the last answers, oldest first; 0 for no refusal, and past those that are
+    /// there.
+    pub answers: [u8; JOURNAL_PLACES],
+    /// The count of all events; it stops at the highest number.
+    pub count: u32,
+}
 
 /// `struct qv_attempt`. Its fields are read and written by the library alone.
 #[repr(C)]
@@ -45,8 +58,8 @@ pub struct Record {
     pub end_mark: u32,
     /// 0; the version in use; the number of the refusal.
     pub end_value: u32,
-    /// 0.
-    pub unused: u32,
+    /// What the events were answered with. It is not judged.
+    pub journal: Journal,
 }
 
 /// Zeros. It can't be derived: arrays of over 32 places have no `Default`.
@@ -66,7 +79,7 @@ impl Default for Record {
             heard: 0,
             end_mark: 0,
             end_value: 0,
-            unused: 0,
+            journal: Journal::default(),
         }
     }
 }
@@ -86,7 +99,10 @@ pub struct Started {
 // and the library's own layout are for tests/layout.rs.
 
 /// Bytes of a record.
-pub const RECORD_SIZE: usize = 8 * MAX_TABLE + 4 * MAX_TABLE + 2 * MAX_ID + 4 * 10;
+pub const RECORD_SIZE: usize =
+    8 * MAX_TABLE + 4 * MAX_TABLE + 2 * MAX_ID + 4 * 9 + (JOURNAL_PLACES + 4);
+const _: () = assert!(size_of::<Journal>() == JOURNAL_PLACES + 4);
+const _: () = assert!(align_of::<Journal>() == 4);
 const _: () = assert!(size_of::<Record>() == RECORD_SIZE);
 const _: () = assert!(align_of::<Record>() == 8);
 const _: () = assert!(size_of::<Started>() == RECORD_SIZE + 8);
@@ -97,11 +113,11 @@ const _: () = assert!(align_of::<Reserved>() == 4);
 const _: () = assert!(size_of::<usize>() == 8);
 
 mod header {
-    use super::{Pair, Record, Reserved, Started, MAX_TABLE};
+    use super::{Pair, Record, Reserved, Started, JOURNAL_PLACES, MAX_TABLE};
 
     extern "C" {
         pub fn qv_interface_version() -> u32;
-        pub fn qv_interface_8() -> u32;
+        pub fn qv_interface_9() -> u32;
         pub fn qv_record_size() -> usize;
         pub fn qv_known_record() -> Record;
         pub fn qv_close_code(refusal: u32, call: u32) -> u64;
@@ -276,6 +292,12 @@ mod header {
             versions: *mut [u32; MAX_TABLE],
             count: *mut usize,
         ) -> u32;
+        pub fn qv_read_journal(
+            attempt: *const Record,
+            answers: *mut [u8; JOURNAL_PLACES],
+            used: *mut usize,
+            count: *mut u32,
+        ) -> u32;
         pub fn qv_write_client_information(
             attempt: *const Record,
             reserved: *const Reserved,
@@ -291,7 +313,7 @@ mod header {
 /// link with a library of another interface. With Rust 1.63, GNU ld drops it as unused; so build.rs
 /// looks for the name, too.
 #[used]
-static INTERFACE: unsafe extern "C" fn() -> u32 = header::qv_interface_8;
+static INTERFACE: unsafe extern "C" fn() -> u32 = header::qv_interface_9;
 
 /// `qv_interface_version`.
 #[inline]
@@ -300,12 +322,12 @@ pub fn interface_version() -> u32 {
     unsafe { header::qv_interface_version() }
 }
 
-/// `qv_interface_8`, for tests/layout.rs alone.
+/// `qv_interface_9`, for tests/layout.rs alone.
 #[allow(dead_code)]
 #[inline]
-pub fn interface_8() -> u32 {
+pub fn interface_9() -> u32 {
     // SAFETY: it takes nothing.
-    unsafe { header::qv_interface_8() }
+    unsafe { header::qv_interface_9() }
 }
 
 /// `qv_record_size`, for tests/layout.rs alone.
@@ -679,6 +701,18 @@ pub fn event(attempt: &mut Record, kind: u32, value: u32, bytes: &[u8]) -> u32 {
 pub fn own_list(attempt: &Record, versions: &mut [u32; MAX_TABLE], count: &mut usize) -> u32 {
     // SAFETY: references do not overlap, any record is allowed.
     unsafe { header::qv_own_list(attempt, versions, count) }
+}
+
+/// `qv_read_journal`.
+#[inline]
+pub fn read_journal(
+    attempt: &Record,
+    answers: &mut [u8; JOURNAL_PLACES],
+    used: &mut usize,
+    count: &mut u32,
+) -> u32 {
+    // SAFETY: references do not overlap, any record is allowed.
+    unsafe { header::qv_read_journal(attempt, answers, used, count) }
 }
 
 /// `qv_write_client_information`.

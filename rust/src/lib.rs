@@ -3,7 +3,8 @@
 //! Both ends get a reader of datagram headers, a reader and a writer of Version Information, a reader
 //! and a writer of the [`transport_parameters`] that carry it, the choice of a version from a list,
 //! and lists as words ([`list_word`]). A server gets a writer of Version Negotiation packets and the
-//! choice after a first flight. A client gets an [`Attempt`], from its first version to its end.
+//! choice after a first flight. A client gets an [`Attempt`], from its first version to its end, and
+//! what happened to it on the way ([`Attempt::journal`]).
 //! Where not every flight converts, though the versions are compatible, [`Attempt::start_barring`]
 //! and [`server_choice_barring`] take what is barred (RFC 9368 section 2.2). Reserved numbers, to
 //! test that the peer ignores them (RFC 9000 section 6.3), go out by [`Attempt::write_information`]
@@ -53,6 +54,7 @@ mod attempt;
 mod choice;
 #[allow(unsafe_code)]
 mod ffi;
+mod journal;
 mod refusal;
 mod shown;
 pub mod transport_parameters;
@@ -64,6 +66,7 @@ pub use choice::{
     are_pairs, choose, choose_from_bytes, is_reserved, is_table, server_choice,
     server_choice_barring, Decision, Pair,
 };
+pub use journal::{Answer, Answers, Journal};
 pub use refusal::{Refusal, WriteRefusal};
 pub use wire::{
     read_header, read_information, versions, write_information, write_version_negotiation,
@@ -87,7 +90,7 @@ pub const VERSION_2: u32 = 0x6b33_43cf;
 /// The release: this crate's version, and that of the library with it.
 pub const RELEASE: &str = env!("CARGO_PKG_VERSION");
 /// The interface that this crate is written for. With a library of another one it does not link.
-pub const INTERFACE_VERSION: u32 = 8;
+pub const INTERFACE_VERSION: u32 = 9;
 /// The most entries of a table of versions.
 pub const MAX_TABLE: usize = ffi::MAX_TABLE;
 /// The most pairs of a table of compatible pairs, and the most barred pairs.
@@ -100,6 +103,10 @@ pub const MAX_RESERVED: usize = 4;
 pub const MAX_LIST: usize = 16_382;
 /// The most bytes of an attempt's connection ID.
 pub const MAX_ID: usize = ffi::MAX_ID;
+/// The answers that a journal keeps.
+pub const JOURNAL_PLACES: usize = ffi::JOURNAL_PLACES;
+/// The most events that a journal counts.
+pub const MAX_EVENTS: u32 = 4_294_967_295;
 /// The most bytes of a datagram.
 pub const MAX_DATAGRAM: usize = 65_535;
 /// The most bytes of a connection ID on the wire (RFC 8999).

@@ -81,7 +81,7 @@ macro_rules! refusals {
                 self as u8
             }
 
-            fn in_words(self) -> &'static str {
+            pub(crate) fn in_words(self) -> &'static str {
                 match self {
                     $($type::$name => words!($number),)*
                 }

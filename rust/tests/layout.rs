@@ -7,7 +7,7 @@
 mod raw;
 
 use quic_version::{Attempt, Pair, Reserved};
-use raw::Record;
+use raw::{Journal, Record};
 use std::mem::size_of;
 use std::ops::Range;
 
@@ -23,13 +23,14 @@ fn interface_version() {
         quic_version::interface_version(),
         quic_version::INTERFACE_VERSION
     );
-    assert_eq!(raw::interface_8(), quic_version::INTERFACE_VERSION);
+    assert_eq!(raw::interface_9(), quic_version::INTERFACE_VERSION);
 }
 
 #[test]
 fn sizes() {
     assert_eq!(raw::record_size(), size_of::<Record>());
     assert_eq!(size_of::<Attempt>(), size_of::<Record>());
+    assert_eq!(size_of::<Record>(), 12 * 64 + 2 * 20 + 48);
 }
 
 /// Each field begins where the one before it ends, in the order of the header.
@@ -50,7 +51,9 @@ fn places_of_the_fields() {
         place(&record, &record.heard),
         place(&record, &record.end_mark),
         place(&record, &record.end_value),
-        place(&record, &record.unused),
+        // The two fields of the journal, which is last.
+        place(&record, &record.journal.answers),
+        place(&record, &record.journal.count),
     ];
     let mut end = 0;
     for place in &places {
@@ -58,6 +61,8 @@ fn places_of_the_fields() {
         end = place.end;
     }
     assert_eq!(end, raw::record_size());
+    let journal = place(&record, &record.journal);
+    assert_eq!(journal, end - size_of::<Journal>()..end);
 }
 
 #[test]
@@ -76,7 +81,8 @@ fn known_record_field_by_field() {
     assert_eq!(record.heard, 0x47);
     assert_eq!(record.end_mark, 0x48);
     assert_eq!(record.end_value, 0x49);
-    assert_eq!(record.unused, 0x4a);
+    assert_eq!(record.journal.answers, [0x51; raw::JOURNAL_PLACES]);
+    assert_eq!(record.journal.count, 0x52);
 }
 
 /// The known record is no attempt.
@@ -87,6 +93,26 @@ fn known_record_is_refused() {
         assert_eq!(raw::event(&mut record, kind, 1, &[]), 255);
         assert_eq!(record, raw::known_record());
     }
+    let (mut answers, mut used, mut count) = ([7; raw::JOURNAL_PLACES], 7, 7);
+    let answer = raw::read_journal(&record, &mut answers, &mut used, &mut count);
+    assert_eq!((answer, answers, used, count), (255, [7; 8], 7, 7));
+}
+
+/// An event notes its answer in the journal's own bytes, and the count behind them.
+#[test]
+fn journal_of_a_record() {
+    let mut record = raw::start(&[14, 12], &[], &[], 12, &[], &[]).attempt;
+    assert_eq!(raw::event(&mut record, 0, 0, &[]), 61);
+    assert_eq!(raw::event(&mut record, 1, 0, &[]), 0);
+    assert_eq!(raw::event(&mut record, 3, 14, &[]), 73);
+    let journal = Journal {
+        answers: [61, 0, 73, 0, 0, 0, 0, 0],
+        count: 3,
+    };
+    assert_eq!(record.journal, journal);
+    let (mut answers, mut used, mut count) = ([7; raw::JOURNAL_PLACES], 7, 7);
+    let answer = raw::read_journal(&record, &mut answers, &mut used, &mut count);
+    assert_eq!((answer, answers, used, count), (0, journal.answers, 3, 3));
 }
 
 /// Every field of a start's record is where and what the header says.

@@ -1,8 +1,8 @@
-//! What `Debug` and the version constants show: versions in hexadecimal.
+//! What `Debug` and the version constants show: versions in hexadecimal. And the journal, for the log.
 
 use quic_version::{
-    read_header, read_information, versions, Attempt, Decision, End, Pair, Refusal, Reserved,
-    Sender, WriteRefusal, VERSION_1, VERSION_2,
+    read_header, read_information, versions, Answer, Attempt, Decision, End, Pair, Refusal,
+    Reserved, Sender, WriteRefusal, VERSION_1, VERSION_2,
 };
 
 /// A Version Negotiation packet from ID 05 to ID 51 d1, with version 1 and version 2.
@@ -94,7 +94,7 @@ fn attempts() {
         format!("{:?}", attempt),
         "Attempt { table: [0x6b3343cf, 0x0000000e, 0x00000001], original: 0x0000000e, \
          attempted: 0x6b3343cf, own_list: [0x6b3343cf, 0x00000001], acted: true, heard: false, \
-         end: Open, .. }"
+         end: Open, journal: Journal { answers: [NoRefusal], count: 1 }, .. }"
     );
     assert_eq!(
         format!("{:#?}", attempt.own_list()),
@@ -108,4 +108,96 @@ fn attempts() {
         Ok(VERSION_1)
     );
     assert_eq!(format!("{:?}", attempt.end()), "Completed(0x00000001)");
+}
+
+#[test]
+fn answers() {
+    let shown = |number| {
+        let answer = Answer::from_number(number);
+        (answer.to_string(), format!("{:?}", answer))
+    };
+    let both = |words: &str, name: &str| (String::from(words), String::from(name));
+    assert_eq!(shown(0), both("0 no refusal", "NoRefusal"));
+    let words = "63 the connection IDs of the packet are not ours, swapped";
+    assert_eq!(shown(63), both(words, "OtherConnection"));
+    // Numbers that no event gives.
+    assert_eq!(shown(7), both("7 an unknown number", "Unknown(7)"));
+    let words = "255 an unknown kind, or a record that could not be an attempt's";
+    assert_eq!(shown(255), both(words, "NotValid"));
+    assert_eq!(
+        Answer::from_number(63).refusal(),
+        Some(Refusal::OtherConnection)
+    );
+    assert_eq!(Answer::from_number(0).refusal(), None);
+    assert_eq!(Answer::from_number(7).refusal(), Some(Refusal::NotValid));
+}
+
+/// A line for each answer that is kept, oldest first, with the number of its event.
+#[test]
+fn journals() {
+    let mut attempt = Attempt::start(&[14, 12], &[], 12, &[5], &[0x51, 0xd1]).unwrap();
+    let journal = attempt.journal();
+    assert_eq!(journal.to_string(), "no event");
+    assert_eq!(
+        format!("{:?}", journal),
+        "Journal { answers: [], count: 0 }"
+    );
+    assert_eq!(journal.first_event(), None);
+
+    attempt.datagram(&PACKET[..9]).unwrap_err();
+    attempt.datagram(&PACKET).unwrap_err();
+    let ended = attempt.journal();
+    assert_eq!(
+        ended.to_string(),
+        "event 1: 61 the datagram is no readable Version Negotiation packet\n\
+         event 2: 65 the packet lists no version of ours; the attempt has ended"
+    );
+    assert_eq!(
+        format!("{:?}", ended),
+        "Journal { answers: [NotVersionNegotiation, NoVersionLeft], count: 2 }"
+    );
+    // A copy: later events do not change it.
+    for _ in 0..7 {
+        attempt.packet_processed().unwrap_err();
+    }
+    assert_eq!((ended.count(), ended.len()), (2, 2));
+    let journal = attempt.journal();
+    assert_eq!((journal.count(), journal.len()), (9, 8));
+    let lines: Vec<String> = journal.to_string().lines().map(String::from).collect();
+    let late = "62 the attempt has ended, or acted or heard before this Version Negotiation packet";
+    assert_eq!(
+        lines[0],
+        "event 2: 65 the packet lists no version of ours; the attempt has ended"
+    );
+    for (line, number) in lines[1..].iter().zip(3..) {
+        assert_eq!(*line, format!("event {}: {}", number, late));
+    }
+    assert_eq!(lines.len(), 8);
+}
+
+#[test]
+fn iterators_of_a_journal() {
+    let mut attempt = Attempt::start(&[14, 12], &[], 12, &[5], &[0x51, 0xd1]).unwrap();
+    attempt.datagram(&[]).unwrap_err();
+    attempt.packet_processed().unwrap();
+    attempt.outcome(12, None).unwrap();
+    attempt.packet_processed().unwrap_err();
+    let journal = attempt.journal();
+    let numbers: Vec<u8> = journal.iter().map(Answer::number).collect();
+    assert_eq!(numbers, [61, 0, 0, 62]);
+    let mut answers = journal.iter();
+    assert_eq!(answers.len(), 4);
+    assert_eq!(answers.next(), Some(Answer::from_number(61)));
+    assert_eq!(answers.next_back(), Some(Answer::from_number(62)));
+    assert_eq!(answers.size_hint(), (2, Some(2)));
+    assert_eq!(format!("{:?}", answers), "[NoRefusal, NoRefusal]");
+    assert_eq!(answers.by_ref().count(), 2);
+    assert_eq!((answers.next(), answers.next_back()), (None, None));
+    let mut refused = Vec::new();
+    for answer in &journal {
+        refused.extend(answer.refusal());
+    }
+    assert_eq!(refused, [Refusal::NotVersionNegotiation, Refusal::TooLate]);
+    assert_eq!(journal.into_iter().rev().count(), 4);
+    assert_eq!(journal, attempt.clone().journal());
 }

@@ -1,6 +1,6 @@
 //! Refusals: their numbers, names and words, in both types and in the C header.
 
-use quic_version::{Refusal, WriteRefusal};
+use quic_version::{Answer, Refusal, WriteRefusal};
 use std::error::Error;
 use std::fmt::{Debug, Display};
 use std::fs;
@@ -177,4 +177,27 @@ fn cases_are_read() {
     assert_eq!(cases(&longer), Some(texts()));
     let wrong = function.replace("breaks its rule", "breaks the rule");
     assert_ne!(cases(&wrong), Some(texts()));
+}
+
+/// An answer of a journal is shown as its number and what `qv_refusal_text` answers, whatever the
+/// number.
+#[test]
+fn words_of_an_answer() {
+    let found = cases(&header()).unwrap();
+    for number in 0..=u8::MAX {
+        let known = all().into_iter().find(|row| row.0 == number);
+        let label = match (number, known) {
+            (0, _) => String::from("0"),
+            (_, Some(row)) => name_in_c(&row.1),
+            (_, None) => String::from("default"),
+        };
+        let words = found
+            .iter()
+            .find(|case| case.0 == label)
+            .map(|case| &case.1);
+        assert_eq!(
+            Answer::from_number(number).to_string(),
+            format!("{} {}", number, words.unwrap())
+        );
+    }
 }

@@ -32,8 +32,8 @@ closeNumber (With code) = code
 abbrev pub returned : {A : Type 0} → Reply A → ℕ
 returned reply = refusalOf reply
 
--- What is lent holds after an answer what is read off its value, or, after a refusal, what it held
-abbrev pub leaving : {A B : Type 0} → (A → B) → Reply A → B → B
+-- What a lent number holds after an answer: what is read off its value, or, after a refusal, what it held
+abbrev pub leaving : {A : Type 0} → (A → ℕ) → Reply A → ℕ → ℕ
 leaving value (refused n c) found = found
 leaving value (answered a) found = value a
 
@@ -121,8 +121,10 @@ ownAnswer r = cond (isRecord r) (answered (ownOf (attemptOf r))) (refused notVal
 abbrev pub journalAnswer : Record → Reply Told
 journalAnswer r = cond (isRecord r) (answered (toldOf (r .journal))) (refused notValid Nothing)
 
-abbrev pub answersTold : Told → List ℕ
-answersTold told = told .answers
+-- What the lent places of its answers hold after it
+abbrev pub leavingAnswers : Reply Told → List ℕ → List ℕ
+leavingAnswers (refused n c) found = found
+leavingAnswers (answered told) found = told .answers
 
 abbrev pub usedTold : Told → ℕ
 usedTold told = told .used

@@ -6,7 +6,7 @@ ghost use Rattle.refusals.specs.Written.{leaves};
 ghost use Rattle.attempt.specs.Start.{inputOf};
 ghost use Rattle.c_record.specs.Records.{stepRecord, startRecord, recordInformation, shownLeft};
 ghost use Rattle.c_interface.specs.Layout.{knownRecord, recordSize};
-ghost use Rattle.c_interface.specs.Numbers.{returned, leaving, ownAnswer, journalAnswer, answersTold, usedTold, countTold};
+ghost use Rattle.c_interface.specs.Numbers.{returned, leaving, ownAnswer, journalAnswer, leavingAnswers, usedTold, countTold};
 use crate::RECORD_SIZE;
 use attempt::MAX_ID;
 use c_record::NOT_VALID;
@@ -135,7 +135,7 @@ pub extern "C" fn qv_read_journal(
     count: &mut u32,
 ) -> u32
     ensures answer { λ r. ⌜ r ≡ returned (journalAnswer (now (held .entry))) ⌝ }
-    ensures told { λ _. ⌜ now (answers .exit) ≡ leaving answersTold (journalAnswer (now (held .entry))) (now (answers .entry)) ⌝ }
+    ensures told { λ _. ⌜ now (answers .exit) ≡ leavingAnswers (journalAnswer (now (held .entry))) (now (answers .entry)) ⌝ }
     ensures places { λ _. ⌜ now (used .exit) ≡ leaving usedTold (journalAnswer (now (held .entry))) (now (used .entry)) ⌝ }
     ensures counted { λ _. ⌜ now (count .exit) ≡ leaving countTold (journalAnswer (now (held .entry))) (now (count .entry)) ⌝ }
 {
@@ -143,14 +143,9 @@ pub extern "C" fn qv_read_journal(
 }
 
 // The same of a record by value.
-fn put_journal(
-    held: Record,
-    answers: &mut [u8; PLACES],
-    used: &mut usize,
-    count: &mut u32,
-) -> u32
+fn put_journal(held: Record, answers: &mut [u8; PLACES], used: &mut usize, count: &mut u32) -> u32
     ensures answer { λ r. ⌜ r ≡ returned (journalAnswer held) ⌝ }
-    ensures told { λ _. ⌜ now (answers .exit) ≡ leaving answersTold (journalAnswer held) (now (answers .entry)) ⌝ }
+    ensures told { λ _. ⌜ now (answers .exit) ≡ leavingAnswers (journalAnswer held) (now (answers .entry)) ⌝ }
     ensures places { λ _. ⌜ now (used .exit) ≡ leaving usedTold (journalAnswer held) (now (used .entry)) ⌝ }
     ensures counted { λ _. ⌜ now (count .exit) ≡ leaving countTold (journalAnswer held) (now (count .entry)) ⌝ }
 {

@@ -120,7 +120,14 @@ fn answer_of(verdict: Verdict) -> Answer
 }
 
 // The record with the fields that an event changes; every other field stays.
-fn put(attempt: Attempt, attempted: u32, acted: bool, heard: bool, end: End, journal: Journal) -> Attempt
+fn put(
+    attempt: Attempt,
+    attempted: u32,
+    acted: bool,
+    heard: bool,
+    end: End,
+    journal: Journal,
+) -> Attempt
     ensures { λ r. ⌜ r ≡ withJournal (put attempt attempted acted heard end) journal ⌝ }
 {
     let table = attempt.table;

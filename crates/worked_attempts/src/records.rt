@@ -74,6 +74,19 @@ pub(crate) fn after_packet(attempt: Attempt) -> Attempt
     stepped.attempt
 }
 
+// The record after an outcome with Version Information.
+pub(crate) fn after_outcome(attempt: Attempt, in_use: u32, bytes: &[u8]) -> Attempt
+    requires { ⌜ Reachable attempt ⌝ }
+    ensures { λ r. ⌜ Reachable r ⌝ }
+{
+    let given = Event::Outcome {
+        in_use,
+        information: Presence::Given,
+    };
+    let stepped = step(attempt, given, bytes);
+    stepped.attempt
+}
+
 // The record after an outcome whose Version Information is missing.
 pub(crate) fn after_missing(attempt: Attempt, in_use: u32) -> Attempt
     requires { ⌜ Reachable attempt ⌝ }

@@ -1,4 +1,4 @@
-// One start, own list, Version Information or event of a client, and one line with its answer.
+// One start, own list, Version Information, event or journal of a client, and one line with its answer.
 ghost use Rattle.attempt.specs.Events.{Reachable};
 use crate::say::number;
 use crate::say::refused;
@@ -15,6 +15,8 @@ use client_information::write_client_information;
 use client_start::start;
 use client_step::step;
 use information::Presence;
+use journal::Journal;
+use journal::tell;
 use lists::Entry;
 use lists::VERSION_BYTES;
 use lists::entry_at;
@@ -157,4 +159,38 @@ pub(crate) fn missing(label: &[u8], attempt: Attempt, in_use: u32)
         information: Presence::Missing,
     };
     event(label, attempt, missing, &[])
+}
+
+// The journal of an attempt.
+pub(crate) fn journal(label: &[u8], attempt: Attempt) {
+    told(label, attempt.journal)
+}
+
+// What a journal tells: the count of all events, and the answers in the places that are used.
+pub(crate) fn told(label: &[u8], journal: Journal) {
+    let told = tell(journal);
+    let answers = told.answers;
+    let used = told.used;
+    text(label);
+    number(told.count as u64);
+    text(b" events, answers");
+    noted(&answers, used);
+    text(b"\n");
+}
+
+// The first answers, as many as `used`, each behind a space.
+fn noted(answers: &[u8], used: usize) {
+    let mut i = 0;
+    while i < answers.len() {
+        if used <= i {
+            return;
+        }
+        answer(answers[i]);
+        i += 1;
+    }
+}
+
+fn answer(value: u8) {
+    text(b" ");
+    number(value as u64);
 }

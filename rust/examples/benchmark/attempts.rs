@@ -1,4 +1,5 @@
-//! Rows of the client's attempt: starts, own lists, and events on a small and on a full table.
+//! Rows of the client's attempt: starts, own lists, events on a small and on a full table, and the
+//! journal.
 
 use crate::measure::{calls, grouped, opaque, same, Part, Table};
 use crate::packet::{in_fours, information, long_packet};
@@ -10,6 +11,7 @@ pub fn rows(table: &mut Table) {
     starts(table);
     small_events(table);
     full_events(table);
+    journals(table);
 }
 
 /// What an event answers: a version, or the number of a refusal.
@@ -38,6 +40,7 @@ impl Both {
     fn of(library: Attempt, plain: PlainAttempt) -> Both {
         assert_eq!(library.attempted(), plain.attempted);
         assert_eq!(*library.own_list(), *plain.own_list());
+        assert_same_journal(&library, &plain);
         Both {
             library: Part(library),
             plain: Part(plain),
@@ -62,6 +65,7 @@ impl Both {
             same(library.datagram(datagram), plain.datagram(datagram)),
             answer
         );
+        assert_same_journal(&library, &plain);
         table.row(
             name,
             calls!(opaque(&self.library.0)
@@ -79,6 +83,7 @@ impl Both {
         let (mut library, mut plain) = self.copies();
         assert!(same(library.packet_processed(), plain.packet_processed()).is_ok());
         assert!(library.heard());
+        assert_same_journal(&library, &plain);
         table.row(
             name,
             calls!(opaque(&self.library.0).clone().packet_processed().is_ok()),
@@ -93,6 +98,7 @@ impl Both {
             same(library.outcome(in_use, bytes), plain.outcome(in_use, bytes)),
             Ok(in_use)
         );
+        assert_same_journal(&library, &plain);
         table.row(
             name,
             calls!(opaque(&self.library.0)
@@ -105,6 +111,13 @@ impl Both {
                 .is_ok()),
         );
     }
+}
+
+fn assert_same_journal(library: &Attempt, plain: &PlainAttempt) {
+    let (one, other) = (library.journal(), plain.journal());
+    assert_eq!(one.count(), other.count);
+    let numbers = one.iter().map(quic_version::Answer::number);
+    assert!(numbers.eq(other.iter().copied()));
 }
 
 /// `entries` versions and `count` pairs, `count / entries` of them from each entry to those after it.
@@ -297,4 +310,36 @@ fn full_events(table: &mut Table) {
             opaque(packet)
         )),
     );
+}
+
+/// Journals that are read, with places left and with none, and an event that pushes the oldest answer
+/// out.
+fn journals(table: &mut Table) {
+    let (versions, pairs) = full();
+    let original = versions[MAX_TABLE - 1];
+    let (destination, source) = ([0xd1; MAX_ID], [0x51; MAX_ID]);
+    let begun = Both::start(&versions, &pairs, original, &destination, &source);
+    for events in [3, 20] {
+        let (mut library, mut plain) = begun.copies();
+        for place in 0..events {
+            let datagram = [0; 3];
+            match place % 2 {
+                0 => assert_eq!(
+                    same(library.datagram(&datagram), plain.datagram(&datagram)),
+                    Err(61)
+                ),
+                _ => assert!(same(library.packet_processed(), plain.packet_processed()).is_ok()),
+            }
+        }
+        let both = Both::of(library, plain);
+        let kept = both.library.0.journal().len();
+        table.row(
+            &format!("journal of {} answers, {} events", kept, events),
+            calls!(opaque(&both.library.0).journal().len()),
+            calls!(opaque(&both.plain.0).journal().len()),
+        );
+        if events > kept {
+            both.processed_row(table, "event: packet processed, full journal, full table");
+        }
+    }
 }

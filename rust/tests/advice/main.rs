@@ -3,6 +3,7 @@
 mod barring;
 mod configurations;
 mod link;
+mod log;
 mod parameters;
 mod reserved;
 mod words;
@@ -35,7 +36,8 @@ fn code_of_the_page() {
             include_str!("page/client.rs"),
             include_str!("page/server.rs"),
             include_str!("page/barring.rs"),
-            include_str!("page/reserved.rs")
+            include_str!("page/reserved.rs"),
+            include_str!("page/log.rs")
         ]
     );
 }

@@ -1,9 +1,10 @@
-//! Events, and a client's information, on any record value whatever, drawn from a seed.
+//! Events, a client's information and the journal, on any record value whatever, drawn from a seed.
 
 use crate::checks::{check_any_information, check_any_record};
 use crate::model::{MAX_ID, MAX_TABLE};
+use crate::random::journal::GIVEN;
 use crate::random::{in_fours, information, long_packet, Random};
-use crate::raw::{self, Record};
+use crate::raw::{self, Journal, Record};
 use crate::{number_of, Pair, DEFAULT_ROUNDS, DEFAULT_SEED};
 use std::collections::BTreeMap;
 
@@ -12,11 +13,17 @@ fn no_event_completes_outside_the_table() {
     let rounds = number_of("QUIC_VERSION_ROUNDS", DEFAULT_ROUNDS as u64) as usize;
     let mut random = Random::new(!number_of("QUIC_VERSION_SEED", DEFAULT_SEED));
     let mut seen: BTreeMap<(u32, u32), usize> = BTreeMap::new();
+    let mut journals: BTreeMap<(&str, bool), usize> = BTreeMap::new();
     for _ in 0..rounds {
         let record = any_record(&mut random);
         let (kind, value, bytes) = any_event(&mut random, &record);
         match check_any_record(&record, kind, value, &bytes) {
-            Ok(number) => *seen.entry((kind.min(4), number)).or_insert(0) += 1,
+            Ok(number) => {
+                *seen.entry((kind.min(4), number)).or_insert(0) += 1;
+                for what in kinds_of(&record.journal) {
+                    *journals.entry((what, number == 255)).or_insert(0) += 1;
+                }
+            }
             Err(difference) => panic!(
                 "{}\n{:?}\nkind {}, value {:#x}, bytes {:?}",
                 difference, record, kind, value, bytes
@@ -34,6 +41,42 @@ fn no_event_completes_outside_the_table() {
         && often(3, &[0, 62, 71, 73, 255])
         && often(4, &[255]);
     assert!(rounds < DEFAULT_ROUNDS || enough, "{:?}", seen);
+    // Journals on both sides of eight and of the stop, and ones that no attempt has; noted in, and
+    // left as found.
+    let noted = |what, not_valid| journals.get(&(what, not_valid)).copied().unwrap_or(0);
+    let often = |what| noted(what, false) >= 1_000 && noted(what, true) >= 1_000;
+    let enough = JOURNALS.iter().all(|what| often(*what));
+    assert!(rounds < DEFAULT_ROUNDS || enough, "{:?}", journals);
+}
+
+/// What `kinds_of` tells.
+const JOURNALS: [&str; 7] = [
+    "empty",
+    "places left",
+    "one place left",
+    "eight",
+    "one before the stop",
+    "at the stop",
+    "of no attempt",
+];
+
+/// What is told of a journal: how full it is, and whether an attempt could have it.
+fn kinds_of(journal: &Journal) -> Vec<&'static str> {
+    let Journal { answers, count } = *journal;
+    let used = answers.len().min(count as usize);
+    let past = answers[used..].iter().any(|answer| *answer != 0);
+    let other = answers.iter().any(|answer| !GIVEN.contains(answer));
+    let kinds = [
+        count == 0,
+        (1..7).contains(&count),
+        count == 7,
+        count == 8,
+        count == u32::MAX - 1,
+        count == u32::MAX,
+        past || other,
+    ];
+    let kinds = kinds.iter().zip(JOURNALS).filter(|(holds, _)| **holds);
+    kinds.map(|(_, what)| what).collect()
 }
 
 #[test]
@@ -63,8 +106,9 @@ fn information_of_any_record() {
     assert!(rounds < DEFAULT_ROUNDS / 2 || enough, "{:?}", seen);
 }
 
-/// The record of a start, or zeroed memory, with up to five fields changed.
-fn any_record(random: &mut Random) -> Record {
+/// The record of a start, or zeroed memory, with up to five fields changed, and half of them with a
+/// journal.
+pub fn any_record(random: &mut Random) -> Record {
     let mut record = Record::default();
     if !random.one_in(8) {
         let c = random.good_start_call();
@@ -76,6 +120,10 @@ fn any_record(random: &mut Random) -> Record {
     }
     for _ in 0..random.below(6) {
         change(random, &mut record);
+    }
+    if random.one_in(2) {
+        record.journal.count = random.event_count();
+        record.journal.answers = random.given_answers();
     }
     record
 }
@@ -97,7 +145,13 @@ fn change(random: &mut Random, record: &mut Record) {
             record.end_mark = up_to(random, 2);
             record.end_value = *random.pick(&[0, 0, 75, 255, 256, version]);
         }
-        13 => record.unused = u32::from(random.one_in(4)),
+        13 => {
+            record.journal.count = random.event_count();
+            record.journal.answers = match random.below(3) {
+                0 => random.any_answers(),
+                _ => random.given_answers(),
+            };
+        }
         _ => record.source[random.below(MAX_ID)] = random.next_u32() as u8,
     }
 }

@@ -11,10 +11,10 @@ const NUMBERS: [u8; 42] = [
 ];
 
 /// Every answer of the calls that choose from a list or a word, make a word or count, of the server's
-/// choice, of a start and of events, of those of transport parameters, and of the writers that take
-/// reserved numbers: 0 and the refusals, 255 too where an unknown presence is tried. All of them have
-/// to be seen, and no other.
-const ANSWERS: [(&str, &[u32]); 30] = [
+/// choice, of a start, of events and of the journal, of those of transport parameters, and of the
+/// writers that take reserved numbers: 0 and the refusals, 255 too where an unknown presence or any
+/// record is tried. All of them have to be seen, and no other.
+const ANSWERS: [(&str, &[u32]); 34] = [
     (
         "qv_write_version_negotiation",
         &[0, 11, 12, 20, 21, 22, 23, 24, 25, 26, 28],
@@ -60,6 +60,15 @@ const ANSWERS: [(&str, &[u32]); 30] = [
     ),
     ("qv_event, barred pairs", &[0, 71, 72, 73, 74, 75]),
     ("qv_event, laws", &[0, 71, 72, 73, 74, 75]),
+    (
+        "qv_event, over eight events",
+        &[
+            0, 31, 32, 33, 34, 35, 61, 62, 63, 64, 65, 71, 72, 73, 74, 75,
+        ],
+    ),
+    ("qv_event, journal near its stop", &[0]),
+    ("qv_event, journal laws", &[0]),
+    ("qv_read_journal", &[0, 255]),
     ("qv_read_integer", &[0, 81]),
     ("qv_write_integer", &[0, 83, 84]),
     ("qv_read_parameters", &[0, 80, 81, 82, 85]),

@@ -2,7 +2,7 @@
 
 use super::choices::{are_pairs, choose, is_table, itself_or_paired_from, paired_from};
 use super::wire::{chosen_and_available, list_on_the_wire, read_header, Header, Sender};
-use super::MAX_ID;
+use super::{History, MAX_ID};
 
 #[derive(Debug, Clone, PartialEq, Eq)]
 pub enum Event {
@@ -48,6 +48,8 @@ pub struct Attempt {
     pub acted: bool,
     pub heard: bool,
     pub end: End,
+    /// Document 02, C-20: "what happened to this attempt".
+    pub history: History,
 }
 
 /// "An attempt starts with a table, pairs, an Original Version and its two
@@ -85,6 +87,7 @@ pub fn start(
         acted: false,
         heard: false,
         end: End::Open,
+        history: History::empty(),
     })
 }
 
@@ -99,17 +102,21 @@ impl Attempt {
         entries.filter(|v| own.contains(v)).collect()
     }
 
-    /// One event. A refusal by 61 to 64 leaves the record as it was; 65, 71 to
-    /// 75, and 31 to 35 on an open attempt set its end mark alone.
+    /// One event, and its answer in the journal. Of the rest of the record a
+    /// refusal by 61 to 64 changes nothing; 65, 71 to 75, and 31 to 35 on an open
+    /// attempt set its end mark alone: "So "unchanged" and "alone" in document 01
+    /// leave this journal out" (document 02, C-20).
     pub fn event(&mut self, e: &Event) -> Result<Effect, u8> {
-        match e {
+        let answer = match e {
             Event::Datagram(datagram) => self.datagram(datagram),
             Event::Processed => self.processed(),
             Event::Outcome {
                 in_use,
                 information,
             } => self.outcome(*in_use, information.as_deref()),
-        }
+        };
+        self.history.add(&answer);
+        answer
     }
 
     fn is_open(&self) -> bool {

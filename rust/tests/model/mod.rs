@@ -1,5 +1,5 @@
 //! A second reading of document 01, and of document 02 as far as it is there (C-11, C-13 to C-15,
-//! C-17, C-18), in plain Rust, to compare the library with.
+//! C-17, C-18, C-20), in plain Rust, to compare the library with.
 //!
 //! It is written from the paper's sentences with sets, slices and iterators;
 //! speed is no aim. Refusals are the paper's numbers. Quoted comments are
@@ -10,6 +10,7 @@
 mod attempts;
 mod choices;
 mod completed;
+mod journal;
 mod parameters;
 mod reserved;
 mod wire;
@@ -18,6 +19,7 @@ mod words;
 pub use attempts::*;
 pub use choices::*;
 pub use completed::*;
+pub use journal::*;
 pub use parameters::*;
 pub use reserved::*;
 pub use wire::*;
@@ -48,6 +50,10 @@ pub const MAX_AVAILABLE: usize = 255;
 pub const MAX_INFORMATION: usize = 1_024;
 /// An attempt's connection IDs: "0 to 20 bytes each".
 pub const MAX_ID: usize = 20;
+/// Document 02, C-20: "the last eight event answers"
+pub const JOURNAL_PLACES: usize = 8;
+/// Document 02, C-20: "the count of all events, stopping at 4,294,967,295"
+pub const MAX_EVENTS: u64 = 4_294_967_295;
 /// Document 02, C-13: "when the received datagram is under 1,200 bytes"
 pub const MIN_ANSWERED: usize = 1_200;
 /// "a number 0 to 127 for the unused bits"

@@ -58,18 +58,20 @@ pub fn p10() -> Attempt {
     attempt
 }
 
-/// An event with this answer, which changes the end mark alone.
+/// An event with this answer, which changes the end mark alone; and the journal,
+/// which "alone" and "unchanged" leave out (document 02, C-20).
 #[track_caller]
 fn answered(attempt: &mut Attempt, event: &Event, answer: Result<Effect, u8>, end: End) {
     let mut after = attempt.clone();
     after.end = end;
+    after.history.answers.push(answer.err().unwrap_or(0));
     assert_eq!(attempt.event(event), answer);
     assert_eq!(*attempt, after);
 }
 
-/// An event that is refused and leaves the record as it was.
+/// An event that is refused and leaves the record as it was, but for the journal.
 #[track_caller]
-fn refused_unchanged(attempt: &mut Attempt, event: &Event, no: u8) {
+pub fn refused_unchanged(attempt: &mut Attempt, event: &Event, no: u8) {
     let end = attempt.end;
     answered(attempt, event, Err(no), end);
 }
@@ -285,6 +287,7 @@ fn heard() {
     // Twice on an open attempt is no refusal.
     for _ in 0..2 {
         assert_eq!(attempt.event(&Event::Processed), Ok(Effect::Noted));
+        after.history.answers.push(0);
         assert_eq!(attempt, after);
     }
     refused_unchanged(&mut attempt, &listing(&[14]), 62);

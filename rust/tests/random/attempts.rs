@@ -92,13 +92,27 @@ impl Random {
 // Events.
 
 impl Random {
-    /// Up to 12 events, each made to suit the state that the ones before it
-    /// leave. `attempt` stays as it is.
+    /// Up to 20 events, each made to suit the state that the ones before it
+    /// leave; one list in eight goes on long after its end. `attempt` stays as it
+    /// is.
     pub fn events(&mut self, attempt: &Attempt) -> Vec<Event> {
+        let after_end = match self.below(8) {
+            0 => self.below(20),
+            _ => self.below(4),
+        };
+        self.events_up_to(attempt, 20, after_end)
+    }
+
+    /// The same, up to 12.
+    pub fn few_events(&mut self, attempt: &Attempt) -> Vec<Event> {
+        let after_end = self.below(4);
+        self.events_up_to(attempt, 12, after_end)
+    }
+
+    fn events_up_to(&mut self, attempt: &Attempt, most: usize, mut after_end: usize) -> Vec<Event> {
         let mut state = attempt.clone();
-        let mut after_end = self.below(4);
         let mut events = Vec::new();
-        let count = self.below(13);
+        let count = self.below(most + 1);
         while events.len() < count {
             let event = self.event(&state);
             // The answer is of no weight here; the state it leaves is.

@@ -13,6 +13,7 @@ mod barred;
 mod barring;
 pub mod choices;
 pub mod hostile;
+pub mod journal;
 mod packet;
 pub mod parameters;
 pub mod reserved;

@@ -237,7 +237,7 @@ impl Random {
     fn client_call_after(&mut self, start: StartCall) -> ClientCall {
         let mut events = Vec::new();
         if !self.one_in(3) {
-            events = self.events(&start.start().unwrap());
+            events = self.few_events(&start.start().unwrap());
         }
         let own = after(&start, &events).own_list().len();
         let reserved = self.reserved_in_list(own);

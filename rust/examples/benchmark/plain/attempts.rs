@@ -3,7 +3,7 @@
 use super::choices::{are_pairs, is_reserved, is_table};
 use super::lists;
 use super::wire::{read_header, read_information};
-use quic_version::{Attempt, Pair, Reserved, MAX_ID, MAX_RESERVED, MAX_TABLE};
+use quic_version::{Attempt, Pair, Reserved, JOURNAL_PLACES, MAX_ID, MAX_RESERVED, MAX_TABLE};
 use std::mem::size_of;
 
 #[derive(Clone, Copy)]
@@ -20,11 +20,33 @@ pub struct PlainAttempt {
     acted: bool,
     heard: bool,
     ended: Option<Result<u32, u8>>,
-    /// Both sides copy as many bytes.
-    _unused: [u32; 2],
+    journal: PlainJournal,
 }
 
+// Both sides copy as many bytes.
 const _: () = assert!(size_of::<PlainAttempt>() == size_of::<Attempt>());
+
+/// What the events were answered with, as the record has it.
+#[derive(Clone, Copy)]
+struct PlainJournal {
+    answers: [u8; JOURNAL_PLACES],
+    count: u32,
+}
+
+/// A journal that was read: the answers, how many of them are used, and the count of all events.
+pub struct Answered {
+    answers: [u8; JOURNAL_PLACES],
+    used: usize,
+    pub count: u32,
+}
+
+impl std::ops::Deref for Answered {
+    type Target = [u8];
+
+    fn deref(&self) -> &[u8] {
+        &self.answers[..self.used]
+    }
+}
 
 pub struct OwnList([u32; MAX_TABLE], usize);
 
@@ -97,7 +119,10 @@ impl PlainAttempt {
             acted: false,
             heard: false,
             ended: None,
-            _unused: [0; 2],
+            journal: PlainJournal {
+                answers: [0; JOURNAL_PLACES],
+                count: 0,
+            },
         };
         attempt.table[..table.len()].copy_from_slice(table);
         attempt.destination[..destination.len()].copy_from_slice(destination);
@@ -174,7 +199,36 @@ impl PlainAttempt {
         Ok(count)
     }
 
-    /// An event by its number in the C header, 255 for an unknown kind.
+    #[inline(never)]
+    pub fn journal(&self) -> Answered {
+        let PlainJournal { answers, count } = self.journal;
+        let used = answers.len().min(count as usize);
+        Answered {
+            answers,
+            used,
+            count,
+        }
+    }
+
+    /// Notes the answer of an event.
+    fn noted<T>(&mut self, answer: Result<T, u8>) -> Result<T, u8> {
+        let number = match &answer {
+            Ok(_) => 0,
+            Err(no) => *no,
+        };
+        let PlainJournal { answers, count } = &mut self.journal;
+        match answers.get_mut(*count as usize) {
+            Some(place) => *place = number,
+            None => {
+                answers.copy_within(1.., 0);
+                answers[JOURNAL_PLACES - 1] = number;
+            }
+        }
+        *count = count.saturating_add(1);
+        answer
+    }
+
+    /// An event by its number in the C header, 255 for an unknown kind, which is not noted.
     #[inline(never)]
     pub fn event(&mut self, kind: u32, value: u32, bytes: &[u8]) -> u32 {
         let answer = match kind {
@@ -189,6 +243,11 @@ impl PlainAttempt {
 
     #[inline(never)]
     pub fn datagram(&mut self, datagram: &[u8]) -> Result<u32, u8> {
+        let answer = self.take_datagram(datagram);
+        self.noted(answer)
+    }
+
+    fn take_datagram(&mut self, datagram: &[u8]) -> Result<u32, u8> {
         let header = match read_header(datagram, 0) {
             Ok(header) if header.version == Some(0) => header,
             _ => return Err(61),
@@ -223,14 +282,21 @@ impl PlainAttempt {
     #[inline(never)]
     pub fn packet_processed(&mut self) -> Result<(), u8> {
         if self.ended.is_some() {
-            return Err(62);
+            return self.noted(Err(62));
         }
         self.heard = true;
-        Ok(())
+        self.noted(Ok(()))
     }
 
     #[inline(never)]
     pub fn outcome(&mut self, in_use: u32, information: Option<&[u8]>) -> Result<u32, u8> {
+        let answer = self.take_outcome(in_use, information);
+        self.noted(answer)
+    }
+
+    // Inlined, its loops over the list took twice as long.
+    #[inline(never)]
+    fn take_outcome(&mut self, in_use: u32, information: Option<&[u8]>) -> Result<u32, u8> {
         if self.ended.is_some() {
             return Err(62);
         }

@@ -1,6 +1,7 @@
 //! Starts and events: the answer, the whole record and the own list after each.
 
 use super::damaged::check_no_record;
+use super::journal::{check_journal, check_own_journal, journal_of};
 use super::{number, paired, plain, same, Compared, Lent, FOUND};
 use crate::model::{self, Event, MAX_TABLE};
 use crate::raw::{self, Record};
@@ -43,7 +44,7 @@ fn rows_of(attempt: &model::Attempt) -> [u64; MAX_TABLE] {
 }
 
 /// The fields that an event may change.
-fn put_changes(record: &mut Record, attempt: &model::Attempt) {
+pub(super) fn put_changes(record: &mut Record, attempt: &model::Attempt) {
     record.attempted = attempt.attempted;
     record.acted = u32::from(attempt.acted);
     record.heard = u32::from(attempt.heard);
@@ -54,9 +55,10 @@ fn put_changes(record: &mut Record, attempt: &model::Attempt) {
     };
     record.end_mark = mark;
     record.end_value = value;
+    record.journal = journal_of(&attempt.history);
 }
 
-/// What a refused start hands back: no attempt, closed with 0.
+/// What a refused start hands back: no attempt, closed with 0, and with an empty journal.
 fn blank() -> Record {
     Record {
         end_mark: 2,
@@ -96,7 +98,8 @@ fn check_attempt(attempt: &Attempt, model: &model::Attempt) -> Result<(), String
     same("acted", attempt.acted(), model.acted)?;
     same("heard", attempt.heard(), model.heard)?;
     same("end", attempt.end(), end_of(model.end))?;
-    same("own_list", attempt.own_list().to_vec(), model.own_list())
+    same("own_list", attempt.own_list().to_vec(), model.own_list())?;
+    check_own_journal(attempt, &model.history)
 }
 
 /// The crate's own starts. With nothing barred the short one is the same.
@@ -131,7 +134,10 @@ pub fn check_start(
     let record = model.as_ref().map_or_else(|_| blank(), record_of);
     same("record", started.attempt, record)?;
     match &model {
-        Ok(model) => check_own_list(&started.attempt, &model.own_list())?,
+        Ok(model) => {
+            check_own_list(&started.attempt, &model.own_list())?;
+            check_journal(&started.attempt, &model.history)?;
+        }
         Err(_) => check_no_record(&started.attempt)?,
     }
     let attempt = own_start(table, &pairs, &barred, original, destination, source)?;
@@ -187,6 +193,7 @@ impl Attempts {
         same("answer", raw_event(record, event), number(&answer))?;
         same("record", *record, self.expected)?;
         check_own_list(record, &model.own_list())?;
+        check_journal(record, &model.history)?;
         let value = answer.map(|effect| match effect {
             model::Effect::Acted(version) | model::Effect::Completed(version) => version,
             model::Effect::Noted => 0,
@@ -198,7 +205,7 @@ impl Attempts {
 }
 
 /// A start that is not refused, then the events: the answer and the whole record after each, the
-/// own list, and at last the statement on the whole list. The numbers seen.
+/// own list, the journal, and at last the statement on the whole list. The numbers seen.
 pub fn check_events(
     table: &[u32],
     pairs: &[(u32, u32)],

@@ -2,17 +2,18 @@
 //! an event does to any record value.
 
 use super::attempts::{check_own_list, raw_event};
+use super::journal::{check_any_journal, noted};
 use super::wire::check_writer;
 use super::{number, paired, placed, same, Compared, Lent, FOUND};
 use crate::model::{self, Event, MAX_ID, MAX_TABLE};
 use crate::raw::{self, Record};
 
 /// The damages of `check_damaged`.
-pub const DAMAGES: usize = 11;
+pub const DAMAGES: usize = 10;
 
 /// What is judged of a record: counts, flags and marks, and that the attempted version is in the
-/// table.
-fn is_record(record: &Record) -> bool {
+/// table. The journal is not: it may have any answers and any count.
+pub(super) fn is_record(record: &Record) -> bool {
     let end_fits = match record.end_mark {
         0 => record.end_value == 0,
         1 => true,
@@ -25,7 +26,6 @@ fn is_record(record: &Record) -> bool {
         && record.acted <= 1
         && record.heard <= 1
         && end_fits
-        && record.unused == 0
         && table_of(record).contains(&record.attempted)
 }
 
@@ -53,9 +53,8 @@ fn damage(record: &mut Record, field: usize, value: u32) {
             record.end_mark = 2;
             record.end_value = over(255);
         }
-        8 => record.unused = over(0),
         // The attempted version is not in the table.
-        9 => {
+        8 => {
             let outside = (value..=u32::MAX).find(|v| !table_of(record).contains(v));
             record.attempted = outside.unwrap_or(0);
         }
@@ -119,17 +118,24 @@ fn check_no_information(record: &Record) -> Result<(), String> {
     Ok(())
 }
 
+/// 255 from the journal, and the lent places are left as found.
+fn check_no_journal(record: &Record) -> Result<(), String> {
+    same("journal's answer", check_any_journal(record)?, 255)
+}
+
 /// 255 from every call with this record, and all is left as found.
 pub fn check_no_record(record: &Record) -> Result<(), String> {
     for kind in 0..4 {
         check_not_valid(*record, kind)?;
     }
     check_no_own_list(record)?;
+    check_no_journal(record)?;
     check_no_information(record)
 }
 
 /// A record after a start and some events, then damaged in one field: 255 from an event, from the
-/// own list and from the writer of a client's information, and all is left as found.
+/// own list, from the journal and from the writer of a client's information, and all is left as
+/// found.
 pub fn check_damaged(
     table: &[u32],
     pairs: &[(u32, u32)],
@@ -144,6 +150,7 @@ pub fn check_damaged(
     same("is_record", is_record(&record), false)?;
     check_not_valid(record, kind)?;
     check_no_own_list(&record)?;
+    check_no_journal(&record)?;
     check_no_information(&record)?;
     Ok(255)
 }
@@ -161,13 +168,16 @@ pub fn check_unknown_kind(
 }
 
 /// An event on any record value whatever: 255 exactly where it has to be, and all is left as found;
-/// else the record stays one, and is completed with a version of its table alone.
+/// else the record stays one, and is completed with a version of its table alone, and its journal,
+/// whatever that was, is the one with the answer noted. The journal is read before and after.
 pub fn check_any_record(found: &Record, kind: u32, value: u32, bytes: &[u8]) -> Compared {
     let mut record = *found;
     let answer = raw::event(&mut record, kind, value, bytes);
     if !is_record(found) {
         check_no_own_list(found)?;
     }
+    check_any_journal(found)?;
+    check_any_journal(&record)?;
     if !is_record(found) || kind > 3 {
         same("answer", answer, 255)?;
         same("record", record, *found)?;
@@ -176,8 +186,9 @@ pub fn check_any_record(found: &Record, kind: u32, value: u32, bytes: &[u8]) -> 
     same("255", answer == 255, false)?;
     same("a record after the event", is_record(&record), true)?;
     let mut left = *found;
+    left.journal = noted(&found.journal, answer);
     if found.end_mark == 0 {
-        // All that an event may change.
+        // All else that an event may change.
         left.attempted = record.attempted;
         left.acted = record.acted;
         left.heard = record.heard;

@@ -1,6 +1,7 @@
 //! Inputs as text to paste into a test.
 
 use crate::model::Event;
+use crate::raw::Record;
 
 pub trait Paste {
     fn paste(&self) -> String;
@@ -31,6 +32,12 @@ impl Paste for u64 {
 impl Paste for usize {
     fn paste(&self) -> String {
         self.to_string()
+    }
+}
+
+impl Paste for &Record {
+    fn paste(&self) -> String {
+        format!("&{:?}", self)
     }
 }
 

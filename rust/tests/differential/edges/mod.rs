@@ -10,6 +10,7 @@ mod barred_versions;
 mod choices;
 mod hostile;
 mod integers;
+mod journal;
 mod parameters;
 mod reserved_in_lists;
 mod reserved_in_packets;
@@ -33,6 +34,8 @@ fn limits() {
     assert_eq!(quic_version::MAX_PACKET, model::MAX_PACKET);
     assert_eq!(quic_version::MAX_LIST, model::MAX_LIST);
     assert_eq!(quic_version::MAX_ID, model::MAX_ID);
+    assert_eq!(quic_version::JOURNAL_PLACES, model::JOURNAL_PLACES);
+    assert_eq!(u64::from(quic_version::MAX_EVENTS), model::MAX_EVENTS);
     assert_eq!(quic_version::MAX_DATAGRAM, model::MAX_DATAGRAM);
     assert_eq!(quic_version::MAX_CONNECTION_ID, model::MAX_WIRE_ID);
     assert_eq!(quic_version::MIN_ANSWERED_DATAGRAM, model::MIN_ANSWERED);
@@ -91,5 +94,6 @@ fn empty_inputs() {
         },
     ];
     check_events(&[1], &[], &[], 1, &[], &[], &events).unwrap();
+    check_events(&[1], &[], &[], 1, &[], &[], &[]).unwrap();
     check_write_client_information(&[1], &[], &[], 1, &[], &[], &[], &[], 0).unwrap();
 }

@@ -23,6 +23,7 @@ macro_rules! compare {
 mod attempts;
 mod barred;
 mod choices;
+mod journal;
 pub mod parameters;
 mod reserved;
 pub mod screening;
@@ -38,6 +39,7 @@ pub fn one_stream(seen: &mut Seen, seed: u64, stream: usize, rounds: usize) {
         words::calls(seen, random, stream);
         attempts::calls(seen, random, stream);
         barred::calls(seen, random, stream);
+        journal::calls(seen, random, stream);
         parameters::calls(seen, random, stream);
         reserved::calls(seen, random, stream);
     }

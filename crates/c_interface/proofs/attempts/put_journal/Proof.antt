@@ -4,8 +4,9 @@ use mathlib.Core.Bool.{true, false}
 use mathlib.Core.Path.{_≡_, refl, sym, ap, _∙_}
 use borrow.Author.Needs.{needs}
 use borrow.Author.Tests.{not-true, not-false}
+use Rattle.journal.specs.declared.Told.{Told}
 use Rattle.c_record.specs.Records.{isRecord}
-use Rattle.c_interface.specs.Numbers.{answersTold, usedTold, countTold}
+use Rattle.c_interface.specs.Numbers.{usedTold, countTold}
 use Rattle.c_interface.proofs.attempts.put_journal.Statement.{statement}
 use Rattle.c_interface.proofs.attempts.put_journal.Tie as tie
 
@@ -28,7 +29,7 @@ returns-2 c =
     let told = known .before in
     let e : isRecord (told .before .args .held) ≡ true = sym (told .is-record .ensures) ∙ not-false _ (known .if1 .left) in
     let t = telling .tell .ensures in
-    rw e (refl, (ap answersTold t, (ap usedTold t, ap countTold t)))
+    rw e (refl, (ap (λ (told : Told). told .answers) t, (ap usedTold t, ap countTold t)))
 
 pub put-journal-spec : {M : Type 1} → statement M
 put-journal-spec = tie.close (tie.spec is-record-requires returns tell-requires returns-2)
