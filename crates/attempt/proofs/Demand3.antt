@@ -2,8 +2,9 @@
 -- ones too): after the list, a client that acted on a Version Negotiation packet has completed exactly when it was
 -- handed an outcome and the first one was good. .. So take two such clients with one table, whatever was forged at
 -- each. If both completed against the same Available list, and it holds the version in use at each, they attempted
--- the same version." The terms are defined in specs/Demand.antt; `startOf` and `run` are the definitions that the
--- contracts of the public start and step equate.
+-- the same version." The terms are defined in specs/Demand.antt; `startOf` is the definition that the contract of the
+-- public start equates, `run` is of document 01's step. The contract of the public step equates that step with its answer
+-- noted (document 02, C-20), and Demand3Journaled.antt has the demand over it.
 use Prim.Native.Nat.{ℕ}
 use mathlib.Core.Bool.{Bool, true, false, not, _||_, or-false, false≢true}
 use mathlib.Core.List.{List, [], _∷_, _++_}

@@ -3,6 +3,7 @@ pub mod Barred
 pub mod Chosen
 pub mod Completing
 pub mod Demand3
+pub mod Demand3Journaled
 pub mod Injective
 pub mod Journaled
 pub mod Keeps
@@ -14,6 +15,7 @@ pub mod Reaching
 pub mod Repeated
 pub mod ReservedChosen
 pub mod Rising
+pub mod Unread
 pub mod Walks
 pub mod Worked
 pub mod WorkedSent

@@ -31,7 +31,7 @@ use Rattle.attempt.specs.declared.Attempt.{Attempt}
 use Rattle.attempt.specs.declared.End.{End}
 use Rattle.attempt.specs.declared.End.the-variants.{Completed, Closed, Open}
 use Rattle.attempt.specs.declared.Event.the-variants.{Datagram, PacketProcessed, Outcome}
-use Rattle.attempt.proofs.Journaled.{same-end}
+use Rattle.attempt.proofs.Unread.{same-end}
 
 -- What a case shows: a choice from a list, or the answers to the events with the record after them
 data Shown : Type 0 where

@@ -22,7 +22,7 @@ run a [] = a
 run a (e ∷ es) = run (stepOf a (e .event) (e .bytes) .attempt) es
 
 -- The record after the events, each of which is noted. But for the journal it is the same (`same-run`,
--- proofs/Journaled.antt)
+-- proofs/Unread.antt)
 unfoldable pub journaledRun : Attempt → List Handed → Attempt
 journaledRun a [] = a
 journaledRun a (e ∷ es) = journaledRun (journaledStep a (e .event) (e .bytes) .attempt) es

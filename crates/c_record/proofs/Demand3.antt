@@ -20,7 +20,7 @@ use Rattle.attempt.specs.declared.End.{End}
 use Rattle.attempt.specs.declared.End.the-variants.{Open, Completed, Closed}
 use Rattle.attempt.specs.declared.Event.{Event}
 use Rattle.attempt.proofs.Completing.{completed-in-table}
-use Rattle.attempt.proofs.Journaled.{demand-3-journaled, two-clients-journaled}
+use Rattle.attempt.proofs.Demand3Journaled.{demand-3-journaled, two-clients-journaled}
 use Rattle.client_verdict.proofs.Judged.{any-accepted}
 use Rattle.c_record.specs.Calls.{EventCall, runCalls, eventsOf, hasCompleted, RecordCompletedAgainst}
 use Rattle.c_record.specs.Records.{markOf, markValue, isRecord, attemptOf, recordOf, eventOf, stepRecord, startRecord, eventOn, asFound}

@@ -12,7 +12,8 @@ use Rattle.attempt.specs.Events.{Handed, journaledRun, answersTo}
 use Rattle.attempt.specs.Journaled.{journaledStep}
 use Rattle.attempt.specs.Start.{Input, isAccepted, startOf}
 use Rattle.attempt.specs.declared.Attempt.{Attempt}
-use Rattle.attempt.proofs.Journaled.{demand-3-journaled, two-clients-journaled, journal-after}
+use Rattle.attempt.proofs.Demand3Journaled.{demand-3-journaled, two-clients-journaled}
+use Rattle.attempt.proofs.Journaled.{journal-after}
 use Rattle.client_in_place.specs.Events.{LeftByAll}
 
 pub in-place-run : (a : Attempt) (events : List Handed) (left : Attempt) → LeftByAll a events left → left ≡ journaledRun a events
