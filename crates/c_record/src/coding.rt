@@ -35,17 +35,18 @@ pub(crate) fn marks_fit(held: Record) -> bool
     mark_fits(held.end_mark, held.end_value)
 }
 
-// Whether the counts are within their arrays.
+// Whether the counts are within their arrays. The table's is judged last: the compiler then knows it where the table is
+// searched, and searches several entries at a time.
 pub(crate) fn counts_fit(held: Record) -> bool
     ensures { λ r. ⌜ r ≡ countsFit (attemptOf held) ⌝ }
 {
-    if MAX_TABLE < held.table_len as usize {
-        return false;
-    }
     if MAX_ID < held.destination_len as usize {
         return false;
     }
-    held.source_len as usize <= MAX_ID
+    if MAX_ID < held.source_len as usize {
+        return false;
+    }
+    held.table_len as usize <= MAX_TABLE
 }
 
 fn mark_fits(mark: u32, value: u32) -> bool
