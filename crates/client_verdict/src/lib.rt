@@ -11,7 +11,8 @@ use refusals::Refusal;
 use versions::MAX_TABLE;
 use versions::table::holds;
 
-// What an event does to an attempt.
+// What an event does to an attempt, its journal left out: there the answer is noted, which follows from the verdict
+// (`record::journal_after`).
 pub enum Verdict {
     // A refusal that leaves the attempt unchanged.
     Unchanged(Refusal),

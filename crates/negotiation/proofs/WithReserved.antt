@@ -7,7 +7,7 @@ use mathlib.Core.Path.{_≡_, refl, ap}
 use native.Mathlib.Omega.{arith}
 use lib.Dec.{eqb, ltb}
 use lib.ListN.{length}
-use Rattle.refusals.specs.Reply.{Reply, Reply.refused, Reply.answered, refuse}
+use Rattle.refusals.specs.Reply.{Reply.answered, refuse, refusalOf}
 use Rattle.refusals.specs.Rule.{Rule, Rule._when_, judged}
 use Rattle.refusals.specs.declared.Call.the-variants.{Writing}
 use Rattle.refusals.proofs.Rules.{lowest-append}
@@ -44,17 +44,12 @@ packet-as-before received offered unusedBits room =
     (earlierRules received offered unusedBits room) ((28 when false) ∷ []))
 
 -- 24 is the number of its own rule alone, and of that only where 23 does not apply
-numberOf : Reply (List ℕ) → ℕ
-numberOf (refused n c) = n
-numberOf (answered bytes) = 0
-
 not-24 : (r11 r12 r20 r21 r22 kept among r25 r26 r28 : Bool) (bytes : List ℕ) → (kept ≡ true → among ≡ false) →
-    numberOf
+    refusalOf
     (judged Writing
     ((11 when r11) ∷ (12 when r12) ∷ (20 when r20) ∷ (21 when r21) ∷ (22 when r22) ∷ (23 when not kept) ∷ (24 when among) ∷
     (25 when r25) ∷ (26 when r26) ∷ (28 when r28) ∷ [])
     (answered bytes)) ≡ 24 → ⊥
-unfolding numberOf
 not-24 true r12 r20 r21 r22 kept among r25 r26 r28 bytes none h = omega (arith, h)
 not-24 false true r20 r21 r22 kept among r25 r26 r28 bytes none h = omega (arith, h)
 not-24 false false true r21 r22 kept among r25 r26 r28 bytes none h = omega (arith, h)
@@ -70,7 +65,7 @@ not-24 false false false false false true false false false false bytes none h =
 -- A received version that is reserved is in no offered table, so it is never a 24. (It is a 28 where it is given too.)
 pub reserved-never-24 : (received offered numbers : List ℕ) (unusedBits room : ℕ) → reserved (versionOf received) ≡ true →
     negotiationPacket received offered numbers unusedBits room ≡ refuse Writing 24 → ⊥
-unfolding negotiationPacket numberOf
+unfolding negotiationPacket
 reserved-never-24 received offered numbers unusedBits room r h =
     not-24 (ltb maxDatagram (length received)) (eqb (length received) 0 || (isLong received && longTruncated received))
     (ltb (length received) minAnsweredDatagram) (not (isLong received)) (eqb (versionOf received) 0)
@@ -78,4 +73,4 @@ reserved-never-24 received offered numbers unusedBits room r h =
     (ltb room (packetLength received (listSent offered numbers)))
     (not (reservedKeepRule numbers) || elem (versionOf received) numbers)
     (packetFor received (listSent offered numbers) unusedBits)
-    (λ kept. reserved-not-in-table offered (versionOf received) kept r) (ap numberOf h)
+    (λ kept. reserved-not-in-table offered (versionOf received) kept r) (ap refusalOf h)
