@@ -1,11 +1,12 @@
 -- A list in an array of n places, entry by entry: a walk that stores each next entry fills it.
-use Prim.Native.Nat.{ℕ, suc, _+_, _≤_, _<_}
+use Prim.Native.Nat.{ℕ, _+_, _≤_, _<_}
 use mathlib.Core.List.{List, [], _∷_, _++_}
 use mathlib.Core.Path.{_≡_, refl, sym, ap, _∙_}
 use native.Mathlib.Numerals.{add-one}
 use native.Mathlib.Omega.{arith}
-use lib.ListN.{length, take, drop, getD, set, replicate, length-append, length-replicate}
-use lib.Seq.{drop-cons, set-append-seam, append-snoc, take-suc, take-all, length-take-le}
+use lib.ListN.{length, take, getD, set, replicate, length-replicate}
+use lib.Seq.{take-suc, take-all, length-take-le}
+use Rattle.journal.proofs.Places.{one-more}
 use Rattle.attempt.specs.Attempt.{over, padded}
 
 pub padded-none : (n : ℕ) → replicate n 0 ≡ padded n []
@@ -17,10 +18,7 @@ pub push-over : (found xs : List ℕ) (i x : ℕ) → length xs ≡ i → i < le
     set (over xs found) i x ≡ over (xs ++ (x ∷ [])) found
 push-over found xs i x e h =
     let room : length xs < length found = omega arith in
-    let more : length (xs ++ (x ∷ [])) ≡ suc (length xs) = length-append xs (x ∷ []) ∙ add-one (length xs) in
-    rw (← e, drop-cons found (length xs) 0 room, more)
-    (set-append-seam xs (getD found (length xs) 0) (drop (suc (length xs)) found) x ∙
-    sym (append-snoc xs x (drop (suc (length xs)) found)))
+    rw (← e) (one-more found xs x room)
 
 pub push : (n : ℕ) (xs : List ℕ) (i x : ℕ) → length xs ≡ i → i < n → set (padded n xs) i x ≡ padded n (xs ++ (x ∷ []))
 unfolding padded

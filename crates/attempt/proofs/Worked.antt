@@ -166,14 +166,14 @@ refusals =
 P1-to-P12 : map computed cases ≡ map expected cases
 unfolding computed expected ourDestination ourSource barring start packet outcome missing answers attempt three four cases
     closeOf codeIn table choose preferred paired pairKeepsRule eachPairKeepsRule pairsKeepRule elem entriesKeepRule
-    tableKeepsRule reserved usable entries listBytes isReadableNegotiation padded ownOf run journaledRun journaledStep members wordWhere wordOf wordFor
+    tableKeepsRule reserved usable entries listBytes isReadableNegotiation padded ownOf journaledRun journaledStep members wordWhere wordOf wordFor
     rowsFor mayBeAnswered startOf opened blank stepOf onDatagram onProcessed onOutcome same
 P1-to-P12 = refl
 
 mixed-answers : answers (startOf (start three [] 12) .attempt) mixed ≡ refusals
 unfolding mixed refusals computed expected ourDestination ourSource barring start packet outcome missing answers attempt three
     four cases closeOf codeIn table choose preferred paired pairKeepsRule eachPairKeepsRule pairsKeepRule elem
-    entriesKeepRule tableKeepsRule reserved usable entries listBytes isReadableNegotiation padded ownOf run journaledRun journaledStep members
+    entriesKeepRule tableKeepsRule reserved usable entries listBytes isReadableNegotiation padded ownOf journaledRun journaledStep members
     wordWhere wordOf wordFor rowsFor mayBeAnswered startOf opened blank stepOf onDatagram onProcessed onOutcome same
 mixed-answers = refl
 
@@ -229,7 +229,7 @@ P10-barred :
     replicate 2 ten-left-out
 unfolding ten-barring ten-left-out ourDestination ourSource barring packet outcome answers attempt closeOf codeIn table
     preferred paired pairKeepsRule eachPairKeepsRule pairsKeepRule elem entriesKeepRule tableKeepsRule reserved usable
-    entries listBytes isReadableNegotiation padded ownOf run journaledRun journaledStep members wordWhere wordOf wordFor rowsFor mayBeAnswered startOf
+    entries listBytes isReadableNegotiation padded ownOf journaledRun journaledStep members wordWhere wordOf wordFor rowsFor mayBeAnswered startOf
     opened stepOf onDatagram onOutcome same
 P10-barred = refl
 

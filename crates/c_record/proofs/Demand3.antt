@@ -15,7 +15,7 @@ use Rattle.attempt.specs.Demand.{actedWith, Handshake, firstOutcome, Good, Comp
 use Rattle.attempt.specs.Events.{journaledRun}
 use Rattle.attempt.specs.Journaled.{journaledStep}
 use Rattle.attempt.specs.Start.{Input, isAccepted, startOf}
-use Rattle.attempt.specs.Step.{After, stepOf}
+use Rattle.attempt.specs.Step.{After}
 use Rattle.attempt.specs.declared.End.{End}
 use Rattle.attempt.specs.declared.End.the-variants.{Open, Completed, Closed}
 use Rattle.attempt.specs.declared.Event.{Event}

@@ -7,15 +7,14 @@ use mathlib.Core.Option.{Option, Option.none, Option.some}
 use mathlib.Core.Path.{_≡_, refl, sym, ap, _∙_}
 use lib.Dec.{eqb}
 use lib.Seq.{append-snoc}
-use Rattle.refusals.specs.Reply.{refusalOf}
 use Rattle.journal.specs.Journals.{journalOf}
 use Rattle.attempt.specs.Journaled.{journaledStep}
-use Rattle.attempt.specs.Start.{Input, startOf}
+use Rattle.attempt.specs.Start.{Input}
 use Rattle.attempt.specs.declared.Event.{Event}
 use Rattle.attempt.proofs.Journaled.{one-noted, answer-known, start-journal}
 use Rattle.c_record.specs.Calls.{EventCall, runCalls, numbersTo}
 use Rattle.c_record.specs.Numbers.{notValid}
-use Rattle.c_record.specs.Records.{Left, isRecord, attemptOf, recordOf, eventOf, eventOn, leftAfter, asFound, stepRecord, startRecord}
+use Rattle.c_record.specs.Records.{Left, isRecord, attemptOf, recordOf, eventOf, eventOn, asFound, stepRecord, startRecord}
 use Rattle.c_record.specs.declared.Record.{Record}
 
 -- What one call does to a journal: it is left as found with 255, or the number is noted behind those before

@@ -4,14 +4,14 @@ use mathlib.Core.Bool.{Bool, true, false, cond}
 use mathlib.Core.List.{List, [], _∷_, _++_, append-nil}
 use mathlib.Core.Path.{_≡_, refl, sym, ap, ap₂, _∙_, subst}
 use native.Mathlib.Nat.{le-of-eq}
-use native.Mathlib.Numerals.{add-one}
 use native.Mathlib.Omega.{arith}
 use lib.Dec.{eqb, ltb, lit<}
-use lib.ListN.{length, take, drop, getD, set, replicate, length-append, length-drop, length-replicate, drop-of-length-le}
-use lib.Seq.{drop-drop, drop-append-le, set-at, drop-cons, append-snoc, take-append-seam}
+use lib.ListN.{length, drop, getD, set, replicate, length-append, length-drop, length-replicate, drop-of-length-le}
+use lib.Seq.{drop-drop, drop-append-le, drop-cons}
 use borrow.Author.Tests.{ltb-true, ltb-false, lt-ltb, le-ltb, eq-eqb, ne-eqb}
-use Rattle.journal.specs.Journals.{places, maxEvents, lastAnswers, inPlaces, journalOf, noteOf, toldOf}
+use Rattle.journal.specs.Journals.{places, maxEvents, lastAnswers, inPlaces, journalOf, noteOf}
 use Rattle.journal.specs.declared.Journal.{Journal}
+use Rattle.journal.proofs.Places.{one-more}
 
 -- A journal is its answers and its count
 abbrev pub journal : List ℕ → ℕ → Journal
@@ -37,9 +37,12 @@ put-from i (x ∷ xs) (suc k) j a h =
     let other : eqb j i ≡ false = ne-eqb j i (λ e. omega (arith, h, e)) in
     rw (other, put-from (suc i) xs k j a (omega (arith, h)))
 
--- All places of a full array, as the code reads them
-pub all-places : (l : List ℕ) → length l ≡ places →
-    getD l 0 0 ∷ (getD l 1 0 ∷ (getD l 2 0 ∷ (getD l 3 0 ∷ (getD l 4 0 ∷ (getD l 5 0 ∷ (getD l 6 0 ∷ (getD l 7 0 ∷ []))))))) ≡ l
+-- The eight places of an array, as the code reads them; of a full array they are the array
+abbrev pub eachPlace : List ℕ → List ℕ
+eachPlace l =
+    getD l 0 0 ∷ getD l 1 0 ∷ getD l 2 0 ∷ getD l 3 0 ∷ getD l 4 0 ∷ getD l 5 0 ∷ getD l 6 0 ∷ getD l 7 0 ∷ []
+
+pub all-places : (l : List ℕ) → length l ≡ places → eachPlace l ≡ l
 all-places l h =
     let at : (j : ℕ) → j < places → drop j l ≡ getD l j 0 ∷ drop (suc j) l =
     λ j k. drop-cons l j 0 (subst (λ (n : ℕ). j < n) (sym h) k) in
@@ -58,28 +61,19 @@ all-places l h =
     refl)
 
 -- An answer at a place of a full array
-pub placed : (l : List ℕ) (k a : ℕ) → length l ≡ places →
-    putFrom 0
-    (getD l 0 0 ∷ (getD l 1 0 ∷ (getD l 2 0 ∷ (getD l 3 0 ∷ (getD l 4 0 ∷ (getD l 5 0 ∷ (getD l 6 0 ∷ (getD l 7 0 ∷ []))))))))
-    k a ≡
-    set l k a
+pub placed : (l : List ℕ) (k a : ℕ) → length l ≡ places → putFrom 0 (eachPlace l) k a ≡ set l k a
 placed l k a h = ap (λ (m : List ℕ). putFrom 0 m k a) (all-places l h) ∙ put-from 0 l k k a (omega arith)
 
 -- The answers of a full array without the oldest, and one behind them
-pub eight : (l : List ℕ) (a : ℕ) → length l ≡ places →
-    (getD l 1 0 ∷ (getD l 2 0 ∷ (getD l 3 0 ∷ (getD l 4 0 ∷ (getD l 5 0 ∷ (getD l 6 0 ∷ (getD l 7 0 ∷ (a ∷ [])))))))) ≡
-    drop 1 l ++ (a ∷ [])
+pub eight : (l : List ℕ) (a : ℕ) → length l ≡ places → drop 1 (eachPlace l) ++ (a ∷ []) ≡ drop 1 l ++ (a ∷ [])
 eight l a h = ap (λ (m : List ℕ). drop 1 m ++ (a ∷ [])) (all-places l h)
 
 -- One more answer in the first unused place
 push : (xs : List ℕ) (a : ℕ) → length xs < places → set (inPlaces xs) (length xs) a ≡ inPlaces (xs ++ (a ∷ []))
 push xs a h =
-    let z : List ℕ = replicate places 0 in
-    let below : length xs < length z = subst (λ (k : ℕ). length xs < k) (sym (length-replicate {A = ℕ} places 0)) h in
-    ap (λ (l : List ℕ). set (xs ++ l) (length xs) a) (drop-cons z (length xs) 0 below) ∙
-    set-at xs (getD z (length xs) 0) (drop (suc (length xs)) z) a (length xs) refl ∙
-    sym (append-snoc xs a (drop (suc (length xs)) z)) ∙
-    ap (λ (k : ℕ). (xs ++ (a ∷ [])) ++ drop k z) (sym (length-append xs (a ∷ []) ∙ add-one (length xs)))
+    let zeros : List ℕ = replicate places 0 in
+    let all : length zeros ≡ places = length-replicate {A = ℕ} places 0 in
+    one-more zeros xs a (omega (arith, h, all))
 
 full : (l : List ℕ) → length l ≡ places → inPlaces l ≡ l
 full l h = rw h (append-nil l)

@@ -1,7 +1,7 @@
 -- What is told of the journal of any answers: the used places hold the last of them, in order, and the others hold 0.
 use Prim.Native.Nat.{ℕ, _-_, min}
-use mathlib.Core.List.{List, [], _∷_, _++_}
-use mathlib.Core.Path.{_≡_, sym, ap, _∙_}
+use mathlib.Core.List.{List}
+use mathlib.Core.Path.{_≡_, ap, _∙_}
 use native.Mathlib.Omega.{arith}
 use lib.ListN.{length, take, drop, replicate, length-drop}
 use lib.Seq.{take-append-seam, drop-append-seam}

@@ -3,7 +3,7 @@
 use Prim.Native.Nat.{ℕ}
 use mathlib.Core.List.{List, [], _∷_, _++_}
 use mathlib.Core.Path.{_≡_, refl}
-use Rattle.journal.specs.Journals.{maxEvents, lastAnswers, journalOf, noteOf, toldOf}
+use Rattle.journal.specs.Journals.{lastAnswers, journalOf, noteOf, toldOf}
 use Rattle.journal.specs.declared.Told.{Told}
 use Rattle.journal.proofs.Notes.{journal}
 

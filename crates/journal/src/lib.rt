@@ -80,6 +80,7 @@ fn with_answer(old: [u8; PLACES], place: usize, answer: u8) -> [u8; PLACES]
     [first, second, third, fourth, fifth, sixth, seventh, eighth]
 }
 
+// An answer where it is new, else what is held.
 fn one_of(new: bool, answer: u8, held: u8) -> u8
     ensures { λ r. ⌜ r ≡ cond new answer held ⌝ }
 {

@@ -1,6 +1,5 @@
 // Document 02's journal: the last event answers, oldest first, and the count of all events. P4 with refused events around it;
 // a journal near the stop of its count, which no list of events here reaches.
-ghost use mathlib.Core.Path.{_≡_};
 ghost use Rattle.attempt.specs.Events.{Reachable};
 use crate::records;
 use crate::show_client::journal;
