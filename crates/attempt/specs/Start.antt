@@ -53,7 +53,8 @@ startRules x =
 abbrev pub isAccepted : Input → Bool
 isAccepted x = clear (startRules x)
 
--- The record of an attempt that is open and attempts the Original Version
+-- The record of an attempt that is open and attempts the Original Version. Document 02, C-20: "Starting again empties it",
+-- the journal
 unfoldable pub opened : Input → Attempt
 opened x =
     record {
@@ -80,7 +81,8 @@ pub record Reads (x : Input) (a : Attempt) : Type 0 where
   pub original : a .original ≡ x .original
   pub own : (v : ℕ) → elem v (x .table) ≡ true → ownFor a v ≡ ourList x v
 
--- The record that a refused start hands back. It is no attempt: no table is empty, and no attempt is closed with 0.
+-- The record that a refused start hands back. It is no attempt: no table is empty, and no attempt is closed with 0. Its
+-- journal is that of no events too
 unfoldable pub blank : Attempt
 blank =
     record {

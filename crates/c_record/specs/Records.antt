@@ -9,7 +9,7 @@ use Rattle.refusals.specs.Reply.{Reply, refuse, refusalOf}
 use Rattle.refusals.specs.declared.Call.the-variants.{Writing}
 use Rattle.versions.specs.Limits.{maxTable}
 use Rattle.information.specs.declared.Presence.the-variants.{Missing, Given}
-use Rattle.journal.specs.Journals.{journalOf}
+use Rattle.journal.specs.Journals.{places}
 use Rattle.attempt.specs.Attempt.{ownOf}
 use Rattle.attempt.specs.Journaled.{journaledStep}
 use Rattle.attempt.specs.Limits.{maxID}
@@ -108,7 +108,7 @@ zeroed =
       heard = 0;
       «end_mark» = 0;
       «end_value» = 0;
-      journal = journalOf [];
+      journal = record { answers = replicate places 0; count = 0 };
     }
 
 -- Events: 0 a datagram, 1 a packet was processed, 2 an outcome with information given, 3 one with it missing; the
