@@ -1,5 +1,7 @@
 // The client's attempt (RFC 9368 sections 2.1 and 4): its record, its events, its answers. specs/ has what a start and
 // an event do to it, proofs/ has demand 3.
+#![tactic(auto)]
+
 pub mod own; // the own list of an attempt
 
 use information::Presence;

@@ -1,6 +1,8 @@
 // Both ends together: the test of a server's configuration, and theorems over the definitions that the contracts of client
 // and server cite. What a safe configuration is good for: proofs/Honest.antt, proofs/Forged.antt. Reserved numbers on the wire
 // change nothing: proofs/Reserved.antt.
+#![tactic(auto)]
+
 ghost use Rattle.std.specs.Prelude.{[], ◌≡◌};
 ghost use Rattle.refusals.specs.Reply.{Reply.answered};
 ghost use Rattle.both_ends.specs.Configuration.{configuration_of, first_outside, is_safe, judged_configuration, verdict_on, finding_reply, says_safe};

@@ -1,6 +1,8 @@
 // The library as C sees it: numbers, slices and one enum-free record. A refusal crosses as its number, 0 is
 // none; other results go through lent numbers and buffers, which a refusal leaves as found. No function
 // requires anything: an unknown kind, or a record that could not be an attempt's, gets 255 and leaves all as found.
+#![tactic(auto)]
+
 ghost use Rattle.std.proofs.Math.Option.{Option.some};
 ghost use Rattle.std.specs.Prelude.{◌≡◌, ◌≤◌};
 ghost use Rattle.c_interface.specs.Layout.{interface_version};

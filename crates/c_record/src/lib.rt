@@ -1,5 +1,7 @@
 // The attempt's record without enums, as C keeps it, and the client's functions over it: the start, the events, the
 // own list. No function requires anything: a record that could not be an attempt's gets 255 and stays as found.
+#![tactic(auto)]
+
 pub mod attempts; // the start, the own list
 pub mod coding; // the record of an attempt, and back
 pub mod events; // the events

@@ -1,4 +1,6 @@
 // The choice of a version: the first entry of the table that occurs in the list.
+#![tactic(auto)]
+
 ghost use Rattle.std.specs.Prelude.{◌≡◌};
 ghost use Rattle.choosing.specs.Choice.{choose, choice_reply, or_nothing_in_common, preferred};
 ghost use Rattle.lists.specs.Wire.{entries, entry_reply};

@@ -1,4 +1,6 @@
 // A datagram at an attempt, judged (RFC 9000 section 6.2, RFC 9368 section 2.1): 61 to 65, or the attempt acts on it.
+#![tactic(auto)]
+
 ghost use Rattle.std.specs.Prelude.{true, ◌≡◌};
 ghost use Rattle.choosing.specs.Choice.{preferred};
 ghost use Rattle.lists.specs.Wire.{entries};

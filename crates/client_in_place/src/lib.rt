@@ -1,4 +1,6 @@
 // The client's events on a record that the host lends: the step by value, and its record stored back.
+#![tactic(auto)]
+
 ghost use Rattle.std.specs.Prelude.{◌≡◌};
 ghost use Rattle.attempt.specs.Events.{Reachable};
 ghost use Rattle.attempt.specs.Journaled.{journaled_step};

@@ -1,6 +1,8 @@
 // The client's Version Information (RFC 9368 section 3), written from its record: the attempted version as Chosen, and the
 // own list as sent, with reserved numbers (RFC 9000 sections 6.3 and 15). It is a call, and no event: the record stays as it
 // is. Every function answers for every input.
+#![tactic(auto)]
+
 ghost use Rattle.std.specs.Prelude.{◌≡◌, ◌++◌, ◌+◌, ◌*◌, ◌^◌, ◌≤◌, ◌<◌, length, drop};
 ghost use Rattle.refusals.specs.Written.{written_reply, counted, leaves};
 ghost use Rattle.lists.specs.Wire.{entry_reply, list_bytes, version_bytes};

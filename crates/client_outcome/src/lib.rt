@@ -1,4 +1,6 @@
 // An outcome of an attempt, judged (RFC 9368 sections 4 and 8): 62, 31 to 35, 71 to 75, or the attempt completes.
+#![tactic(auto)]
+
 ghost use Rattle.std.specs.Prelude.{true, ◌≡◌};
 ghost use Rattle.attempt.specs.Step.{on_outcome, counts_fit, step_of_any};
 ghost use Rattle.attempt.specs.declared.Event.TheVariants.{Outcome};

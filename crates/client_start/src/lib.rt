@@ -1,4 +1,6 @@
 // The start of a client's attempt.
+#![tactic(auto)]
+
 ghost use Rattle.std.specs.Prelude.{true, ◌≡◌, ◌≤◌, length};
 ghost use Rattle.versions.specs.Limits.{max_table};
 ghost use Rattle.versions.specs.Pairs.{pairs_keep_rule};

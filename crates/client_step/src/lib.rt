@@ -1,5 +1,7 @@
 // The client's step (RFC 9368 sections 2.1 and 4): what an event does to an attempt. An event is judged first, then
 // applied in one place.
+#![tactic(auto)]
+
 ghost use Rattle.std.specs.Prelude.{[], ◌≡◌};
 ghost use Rattle.attempt.specs.Events.{Reachable};
 ghost use Rattle.attempt.specs.Journaled.{journaled_step, journaled_step_of_any};

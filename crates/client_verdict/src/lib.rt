@@ -1,5 +1,7 @@
 // What an event does to an attempt: the verdict on it. Judging an event ends with a verdict, and one function applies
 // it to the record; every test comes before the record is touched, so that the compiler copies it nowhere.
+#![tactic(auto)]
+
 ghost use Rattle.std.specs.Prelude.{◌≡◌};
 ghost use Rattle.attempt.specs.Step.{could_be_attempt};
 

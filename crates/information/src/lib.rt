@@ -1,4 +1,6 @@
 // Version Information (RFC 9368 section 3): reader and writer. Every function answers for every input.
+#![tactic(auto)]
+
 ghost use Rattle.std.specs.Prelude.{◌≡◌, not, ◌&&◌, ◌++◌, ◌≤◌, length, drop};
 ghost use Rattle.refusals.specs.Written.{written_reply, counted, leaves};
 ghost use Rattle.versions.specs.Table.{elem};

@@ -1,4 +1,6 @@
 // Variable-length integers (RFC 9000 section 16): reader and writer. Every function answers for every input.
+#![tactic(auto)]
+
 ghost use Rattle.std.specs.Prelude.{◌≡◌, ◌++◌, ◌<◌, ◌≤◌, length, drop};
 ghost use Rattle.refusals.specs.Written.{written_reply, counted, leaves};
 ghost use Rattle.integers.specs.Integers.{width_of, value_at, read_integer, integer_reply, held_below, shortest, shortest_width, integer_bytes, integer_to_write};

@@ -1,5 +1,7 @@
 // RFC 8999, the version-independent properties of QUIC: the header reader, which answers for
 // every input.
+#![tactic(auto)]
+
 mod fields; // the fields of a long form
 pub mod reader; // the header reader
 

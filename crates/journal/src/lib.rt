@@ -1,5 +1,7 @@
 // The journal of an attempt (document 02, C-20): the last eight event answers, oldest first, and the count of all events.
 // It is a part of the attempt's record that every event changes and none reads.
+#![tactic(auto)]
+
 ghost use Rattle.std.specs.Prelude.{cond, [], ◌∷◌, ◌++◌, ◌≡◌, min, drop, set};
 ghost use Rattle.journal.specs.Journals.{places, journal_of, note_of, told_of};
 

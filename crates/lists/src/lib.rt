@@ -1,4 +1,6 @@
 // Versions on the wire: big endian, four bytes each; a list is its entries one after the other.
+#![tactic(auto)]
+
 ghost use Rattle.std.specs.Prelude.{◌≡◌, ◌+◌, ◌≤◌, ◌<◌, ◌*◌, ◌/◌, ◌^◌, ◌||◌, ◌++◌, leb, eqb, length, take, drop, get_or};
 ghost use Rattle.versions.specs.Table.{elem};
 ghost use Rattle.lists.specs.Limits.{block};

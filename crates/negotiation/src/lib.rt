@@ -1,5 +1,7 @@
 // RFC 8999 section 6: the Version Negotiation packet that answers a received datagram. The writer answers for
 // every input.
+#![tactic(auto)]
+
 ghost use Rattle.std.specs.Prelude.{◌≡◌, ◌∷◌, ◌++◌, suc, ◌+◌, ◌≤◌, length, take, drop};
 ghost use Rattle.refusals.specs.Reply.{Reply.answered};
 ghost use Rattle.refusals.specs.Rule.{judged};

@@ -1,5 +1,7 @@
 // Transport parameters (RFC 9000 section 18): what a sequence of them is, one parameter of it, and the answers of reader
 // and writer. The reader of a whole sequence is in parameters_reader, the writer in parameters_writer.
+#![tactic(auto)]
+
 ghost use Rattle.std.specs.Prelude.{◌≡◌, ◌≤◌, length};
 ghost use Rattle.parameters.specs.Sequence.{field_at, behind_id, parameter_reply};
 

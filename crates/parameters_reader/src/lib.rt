@@ -1,4 +1,6 @@
 // The reader of a sequence of transport parameters (RFC 9000 section 18). It answers for every input.
+#![tactic(auto)]
+
 ghost use Rattle.std.specs.Prelude.{false, ◌≡◌, ◌≤◌, ◌<◌, length};
 ghost use Rattle.refusals.specs.Reply.{refuse};
 ghost use Rattle.refusals.specs.declared.Call.TheVariants.{Reading};

@@ -1,4 +1,6 @@
 // The writer of a sequence of transport parameters (RFC 9000 section 18). It answers for every input.
+#![tactic(auto)]
+
 ghost use Rattle.std.specs.Prelude.{true, not, ◌≡◌, length};
 ghost use Rattle.refusals.specs.Rule.{clear};
 ghost use Rattle.refusals.specs.Written.{written_reply, counted, leaves};

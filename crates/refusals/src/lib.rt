@@ -1,5 +1,7 @@
 // Refusals: each number of document 01's table under a name for its one cause, and the close code
 // that goes with it. Answers that every writer shares stand here too.
+#![tactic(auto)]
+
 ghost use Rattle.std.specs.Prelude.{◌≡◌, ◌<◌};
 ghost use Rattle.refusals.specs.Table.{numbers, table};
 ghost use Rattle.refusals.specs.Close.{close_of, code_in};

@@ -1,4 +1,6 @@
 // The server's choice after a first flight (RFC 9368 sections 2.3 and 4). It answers for every input.
+#![tactic(auto)]
+
 ghost use Rattle.std.specs.Prelude.{true, cond, not, ◌&&◌, ◌≡◌, eqb};
 ghost use Rattle.refusals.specs.Reply.{Reply.answered};
 ghost use Rattle.versions.specs.Table.{elem, table_keeps_rule};

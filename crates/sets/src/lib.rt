@@ -1,5 +1,7 @@
 // Lists as words, and a second way to choose: bit j of a word tells whether table entry j occurs in the list. It answers
 // as the plain way does, on every table and list.
+#![tactic(auto)]
+
 ghost use Rattle.std.specs.Prelude.{true, ◌≡◌};
 ghost use Rattle.std.specs.Int.Count.{ones};
 ghost use Rattle.versions.specs.Table.{elem, table_keeps_rule};

@@ -1,5 +1,7 @@
 // The first entry of a table that occurs in a list on the wire. Of a long list and a large table the entries are looked
 // up in slots, so that the time grows with list plus table and not with their product.
+#![tactic(auto)]
+
 ghost use Rattle.std.specs.Prelude.{false, ◌≡◌, ◌<◌, get_or};
 ghost use Rattle.lists.specs.Wire.{entries};
 ghost use Rattle.versions.specs.Table.{elem};

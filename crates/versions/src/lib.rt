@@ -1,5 +1,7 @@
 // Versions: the reserved numbers, tables of versions and of compatible pairs, sets of table entries as words. Every
 // function answers for every input.
+#![tactic(auto)]
+
 pub mod pairs; // compatible pairs
 pub mod table; // reserved numbers, tables and lists
 pub mod words; // sets of table entries as words

@@ -1,6 +1,8 @@
 // Document 01's worked calls of the client's attempt beside P1 to P12, run through the public functions: one line for
 // each case, in the order of document 01's sections. "When the desk says no" has one line for each number of a start
 // or an event. Last are document 02's barred pairs, the client's Version Information with reserved numbers, and the journal.
+#![tactic(auto)]
+
 mod attempt_cases; // "How a version is chosen": by the client
 mod barred_cases; // pairs barred for an attempt's flights
 mod event_refusals; // "When the desk says no": 61 to 75

@@ -1,6 +1,8 @@
 // Document 01's worked choices beside P1 to P12, from a list and by the server, run through the public functions: one
 // line for each case. "When the desk says no" has one line for each of 40, 41, 42 and 51; then 41 and 43 at the limits,
 // document 02's lists as words, and its barred versions; and the test of a server's configuration.
+#![tactic(auto)]
+
 mod barred_cases; // versions barred for the flight at hand
 mod configuration_cases; // a server's lists, tested
 mod limit_cases; // tables and pairs at their limits

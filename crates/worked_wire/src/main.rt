@@ -2,6 +2,8 @@
 // each case, in the order of document 01's sections. "When the desk says no" has one line for each number up to 37; those
 // from 40 to 75 are in the programs worked_choices and worked_attempts. Document 02's transport parameters, with 80 to 85,
 // and the packet's reserved numbers, with 28, come last.
+#![tactic(auto)]
+
 mod call_cases; // "Calls from both sides of the line": Version Information
 mod datagram_cases; // "What a datagram may hold"
 mod information_cases; // "Version Information"

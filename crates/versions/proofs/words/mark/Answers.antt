@@ -12,39 +12,26 @@ use lib.Pow.{shl_exact}
 use Rattle.versions.specs.Table.{place_of}
 use Rattle.versions.specs.Words.{marked, word_bits}
 use Rattle.versions.proofs.Marked.{marked-nowhere, marked-at}
-use Rattle.versions.proofs.words.mark.Statement.{statement}
-use Rattle.versions.proofs.words.mark.Tie as tie
-
-place-of-requires : tie.Need-place-of-requires
-place-of-requires c κs = search rules
+use Rattle.versions.proofs.words.mark.Goals as goal
 
 -- no place among the first entries
 nowhere : (table : List ℕ) (v w : ℕ) → length (take word_bits table) ≤ place_of v table → w ≡ marked (take word_bits table) v w
 nowhere table v w h = sym (marked-nowhere word_bits table v w h)
 
-returns : tie.Need-returns
-returns c =
-    let g = c.before.before.before.args in
-    let at = c.before.place_of.ensures in
+pub returns-then-table-place : goal.returns-then-table-place
+returns-then-table-place c = let g = c.args in
+    let at = c.place_of-place.ensures in
     nowhere g.table.now g.version g.word (rw (length-take word_bits g.table.now) (omega arith))
 
-returns-2 : tie.Need-returns-2
-returns-2 c =
-    let g = c.before.before.before.before.args in
-    let at = c.before.before.place_of.ensures in
+pub returns-then-place-ge-WORD_BITS : goal.returns-then-place-ge-WORD_BITS
+returns-then-place-ge-WORD_BITS c = let g = c.args in
+    let at = c.place_of-place.ensures in
     nowhere g.table.now g.version g.word (rw (length-take word_bits g.table.now) (omega arith))
 
-shl-result : tie.Need-overflow-shl-result
-shl-result c = search rules
-
-returns-3 : tie.Need-returns-3
-returns-3 c =
-    let g = c.before.before.before.before.args in
-    let at = c.before.before.place_of.ensures in
-    let place = c.before.before.place_of.result in
+pub returns : goal.returns
+returns c = let g = c.args in
+    let at = c.place_of-place.ensures in
+    let place = c.place_of-place.result in
     let bit : (1 * 2 ^ place) % 2 ^ word_bits ≡ 2 ^ place =
     shl_exact 1 place word_bits (lit< tt) (omega arith) ∙ one-mul (2 ^ place) in
     ap (bit_or g.word) bit ∙ rw at (sym (marked-at word_bits g.table.now g.version g.word (omega arith) (omega arith)))
-
-pub mark_spec : {M : Type 1} → statement M
-mark_spec = tie.close (tie.spec place-of-requires returns returns-2 shl-result returns-3)
