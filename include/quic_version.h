@@ -34,7 +34,7 @@ extern "C" {
 
 /* The release, and the interface that this header describes. */
 #define QV_RELEASE "0.1.0"
-#define QV_INTERFACE_VERSION 10u
+#define QV_INTERFACE_VERSION 9u
 
 /* On a function that answers a refusal: the compiler warns where the answer is not looked at. */
 #if defined(__GNUC__)
@@ -210,7 +210,7 @@ uint32_t qv_interface_version(void);
  * that a library with another interface does not link (with GCC and Clang; else compare
  * qv_interface_version() with QV_INTERFACE_VERSION at the start).
  */
-uint32_t qv_interface_10(void);
+uint32_t qv_interface_9(void);
 #if defined(__GNUC__)
 #if defined(__has_attribute)
 #if __has_attribute(retain)
@@ -220,7 +220,7 @@ uint32_t qv_interface_10(void);
 #ifndef QV_KEPT
 #define QV_KEPT __attribute__((used))
 #endif
-static uint32_t (*const qv_linked_interface)(void) QV_KEPT = qv_interface_10;
+static uint32_t (*const qv_linked_interface)(void) QV_KEPT = qv_interface_9;
 #endif
 
 /* sizeof(struct qv_attempt) as the library has it. */

@@ -13,7 +13,7 @@ use std::process::{exit, Command};
 const ARCHIVE: &str = "libc_interface.a";
 const FOLDER_VARIABLE: &str = "QUIC_VERSION_LIB_DIR";
 /// The function whose name has the number of the interface that this crate is written for.
-const INTERFACE: &str = "qv_interface_10";
+const INTERFACE: &str = "qv_interface_9";
 
 fn main() {
     println!("cargo:rerun-if-changed=build.rs");

@@ -2,7 +2,7 @@
 
 use crate::ffi;
 use crate::shown::{List, Version};
-use crate::{Pair, WriteRefusal};
+use crate::{ConfigurationRefusal, Pair};
 use std::error::Error;
 use std::fmt;
 
@@ -63,11 +63,11 @@ impl ServerConfiguration<'_> {
     /// # Errors
     ///
     /// First [`ConfigurationFault::Refused`], where a list breaks a rule of its own. In this order:
-    /// - [`BadOfferedTable`](WriteRefusal::BadOfferedTable) (23): the offered table breaks its rule;
-    /// - [`InformationTooLong`](WriteRefusal::InformationTooLong) (33): over 255 Available Versions;
-    /// - [`BadTable`](WriteRefusal::BadTable) (41): the table of readable or of accepted versions
+    /// - [`BadOfferedTable`](ConfigurationRefusal::BadOfferedTable) (23): the offered table breaks its rule;
+    /// - [`InformationTooLong`](ConfigurationRefusal::InformationTooLong) (33): over 255 Available Versions;
+    /// - [`BadTable`](ConfigurationRefusal::BadTable) (41): the table of readable or of accepted versions
     ///   breaks its rule;
-    /// - [`BadPairs`](WriteRefusal::BadPairs) (43): the pairs break theirs.
+    /// - [`BadPairs`](ConfigurationRefusal::BadPairs) (43): the pairs break theirs.
     ///
     /// Then the first part of the safe rule that is broken, in the order of [`ConfigurationFault`],
     /// with the first version that breaks it, in the order of the list that the part names first.
@@ -83,7 +83,7 @@ impl ServerConfiguration<'_> {
             &mut version,
         );
         if number != 0 {
-            return Err(ConfigurationFault::Refused(WriteRefusal::answered(number)));
+            return Err(ConfigurationFault::Refused(ConfigurationRefusal::answered(number)));
         }
         match part {
             0 => Ok(()),
@@ -93,7 +93,7 @@ impl ServerConfiguration<'_> {
             4 => Err(ConfigurationFault::AvailableNotOffered(version)),
             5 => Err(ConfigurationFault::OfferedNotAvailable(version)),
             // The library answers no other part; none that is unknown is safe.
-            _ => Err(ConfigurationFault::Refused(WriteRefusal::NotValid)),
+            _ => Err(ConfigurationFault::Refused(ConfigurationRefusal::NotValid)),
         }
     }
 }
@@ -115,7 +115,7 @@ impl fmt::Debug for ServerConfiguration<'_> {
 #[derive(Clone, Copy, PartialEq, Eq, Hash)]
 pub enum ConfigurationFault {
     /// A list breaks a rule of its own, and the safe rule was not looked at.
-    Refused(WriteRefusal),
+    Refused(ConfigurationRefusal),
     /// An accepted version is not offered.
     AcceptedNotOffered(u32),
     /// An offered version is not accepted.
@@ -131,7 +131,7 @@ pub enum ConfigurationFault {
 impl ConfigurationFault {
     /// The name of the fault, and of a broken part its words, which tests/words.rs compares the C
     /// header's with, and the version.
-    fn shown(&self) -> Result<(&'static str, &'static str, u32), WriteRefusal> {
+    fn shown(&self) -> Result<(&'static str, &'static str, u32), ConfigurationRefusal> {
         Ok(match *self {
             ConfigurationFault::Refused(refusal) => return Err(refusal),
             ConfigurationFault::AcceptedNotOffered(version) => (

@@ -117,7 +117,7 @@ mod header {
 
     extern "C" {
         pub fn qv_interface_version() -> u32;
-        pub fn qv_interface_10() -> u32;
+        pub fn qv_interface_9() -> u32;
         pub fn qv_record_size() -> usize;
         pub fn qv_known_record() -> Record;
         pub fn qv_close_code(refusal: u32, call: u32) -> u64;
@@ -327,7 +327,7 @@ mod header {
 /// link with a library of another interface. With Rust 1.63, GNU ld drops it as unused; so build.rs
 /// looks for the name, too.
 #[used]
-static INTERFACE: unsafe extern "C" fn() -> u32 = header::qv_interface_10;
+static INTERFACE: unsafe extern "C" fn() -> u32 = header::qv_interface_9;
 
 /// `qv_interface_version`.
 #[inline]
@@ -336,12 +336,12 @@ pub fn interface_version() -> u32 {
     unsafe { header::qv_interface_version() }
 }
 
-/// `qv_interface_10`, for tests/layout.rs alone.
+/// `qv_interface_9`, for tests/layout.rs alone.
 #[allow(dead_code)]
 #[inline]
-pub fn interface_10() -> u32 {
+pub fn interface_9() -> u32 {
     // SAFETY: it takes nothing.
-    unsafe { header::qv_interface_10() }
+    unsafe { header::qv_interface_9() }
 }
 
 /// `qv_record_size`, for tests/layout.rs alone.

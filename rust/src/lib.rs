@@ -70,7 +70,7 @@ pub use choice::{
 };
 pub use configuration::{ConfigurationFault, ServerConfiguration};
 pub use journal::{Answer, Answers, Journal};
-pub use refusal::{Refusal, WriteRefusal};
+pub use refusal::{ConfigurationRefusal, Refusal, WriteRefusal};
 pub use wire::{
     read_header, read_information, versions, write_information, write_version_negotiation,
     write_version_negotiation_with_reserved, Header, Information, Sender, Versions,
@@ -93,7 +93,7 @@ pub const VERSION_2: u32 = 0x6b33_43cf;
 /// The release: this crate's version, and that of the library with it.
 pub const RELEASE: &str = env!("CARGO_PKG_VERSION");
 /// The interface that this crate is written for. With a library of another one it does not link.
-pub const INTERFACE_VERSION: u32 = 10;
+pub const INTERFACE_VERSION: u32 = 9;
 /// The most entries of a table of versions.
 pub const MAX_TABLE: usize = ffi::MAX_TABLE;
 /// The most pairs of a table of compatible pairs, and the most barred pairs.

@@ -1,8 +1,8 @@
 //! Refusals: the numbers of document 01's table, which document 02's join, each with its one cause.
 //!
 //! Two types, since a close code belongs to the number and the call: 33 to 36, 80 to 82 and 85 close
-//! with 0x08 when a reader gives them, and close nothing when a writer does. The test of a
-//! server's configuration closes nothing either, and has the writers' type.
+//! with 0x08 when a reader gives them, and close nothing when a writer does. The test of a server's
+//! configuration, which closes nothing either, has a third.
 
 use crate::ffi;
 use std::error::Error;
@@ -150,13 +150,11 @@ refusals! {
 }
 
 refusals! {
-    /// Why a writer wrote nothing, or why a server's configuration was not judged (see
-    /// [`ServerConfiguration`](crate::ServerConfiguration)): the number in document 01's table under
-    /// a name for its cause.
+    /// Why a writer wrote nothing: the number in document 01's table under a name for its cause.
     ///
-    /// It closes nothing: it is about what the caller wants to send or is configured with, or says
-    /// that a received datagram gets no Version Negotiation packet. So it has no close code, and
-    /// does not turn into a [`Refusal`], which may have one:
+    /// It closes nothing: it is about what the caller wants to send, or says that a received
+    /// datagram gets no Version Negotiation packet. So it has no close code, and does not turn into
+    /// a [`Refusal`], which may have one:
     ///
     /// ```
     /// # use quic_version::{write_information, Sender};
@@ -199,8 +197,6 @@ refusals! {
         35 AvailableHoldsZero,
         36 ChosenNotAvailable,
         37 NoRoomForInformation,
-        41 BadTable,
-        43 BadPairs,
         47 BadReservedInList,
         80 SequenceTooLong,
         81 RunsPastTheEnd,
@@ -208,6 +204,21 @@ refusals! {
         83 IntegerTooLarge,
         84 NoRoomToWrite,
         85 TooManyParameters,
+        255 NotValid,
+    }
+}
+
+refusals! {
+    /// Why a server's configuration was not judged (see
+    /// [`ServerConfiguration`](crate::ServerConfiguration)): the number in document 01's table under
+    /// a name for its cause. It is about this side alone, so it has no close code.
+    ///
+    /// [`NotValid`](ConfigurationRefusal::NotValid) does not occur, as with [`Refusal`].
+    ConfigurationRefusal {
+        23 BadOfferedTable,
+        33 InformationTooLong,
+        41 BadTable,
+        43 BadPairs,
         255 NotValid,
     }
 }

@@ -23,7 +23,7 @@ fn interface_version() {
         quic_version::interface_version(),
         quic_version::INTERFACE_VERSION
     );
-    assert_eq!(raw::interface_10(), quic_version::INTERFACE_VERSION);
+    assert_eq!(raw::interface_9(), quic_version::INTERFACE_VERSION);
 }
 
 #[test]

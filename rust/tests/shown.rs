@@ -1,8 +1,9 @@
 //! What `Debug` and the version constants show: versions in hexadecimal. And the journal, for the log.
 
 use quic_version::{
-    read_header, read_information, versions, Answer, Attempt, ConfigurationFault, Decision, End,
-    Pair, Refusal, Reserved, Sender, ServerConfiguration, WriteRefusal, VERSION_1, VERSION_2,
+    read_header, read_information, versions, Answer, Attempt, ConfigurationFault,
+    ConfigurationRefusal, Decision, End, Pair, Refusal, Reserved, Sender, ServerConfiguration,
+    WriteRefusal, VERSION_1, VERSION_2,
 };
 
 /// A Version Negotiation packet from ID 05 to ID 51 d1, with version 1 and version 2.
@@ -83,7 +84,7 @@ fn configurations() {
         ..server
     };
     let fault = server.check().unwrap_err();
-    let refusal = WriteRefusal::BadOfferedTable;
+    let refusal = ConfigurationRefusal::BadOfferedTable;
     assert_eq!(fault, ConfigurationFault::Refused(refusal));
     assert_eq!(format!("{:?}", fault), "Refused(BadOfferedTable)");
     assert_eq!(fault.to_string(), "the offered table breaks its rule (23)");

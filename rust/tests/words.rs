@@ -1,7 +1,7 @@
-//! Refusals: their numbers, names and words, in both types and in the C header. The parts of the safe
+//! Refusals: their numbers, names and words, in all types and in the C header. The parts of the safe
 //! rule likewise.
 
-use quic_version::{Answer, ConfigurationFault, Refusal, WriteRefusal};
+use quic_version::{Answer, ConfigurationFault, ConfigurationRefusal, Refusal, WriteRefusal};
 use std::error::Error;
 use std::fmt::{Debug, Display};
 use std::fs;
@@ -12,11 +12,13 @@ const READING: [u8; 31] = [
     74, 75, 80, 81, 82, 85, 255,
 ];
 
-/// The numbers of writers, and of the test of a configuration.
-const WRITING: [u8; 25] = [
-    11, 12, 20, 21, 22, 23, 24, 25, 26, 28, 33, 34, 35, 36, 37, 41, 43, 47, 80, 81, 82, 83, 84, 85,
-    255,
+/// The numbers of writers.
+const WRITING: [u8; 23] = [
+    11, 12, 20, 21, 22, 23, 24, 25, 26, 28, 33, 34, 35, 36, 37, 47, 80, 81, 82, 83, 84, 85, 255,
 ];
+
+/// The numbers of the test of a configuration.
+const CONFIGURATIONS: [u8; 5] = [23, 33, 41, 43, 255];
 
 /// A number with its name and its words.
 type Row = (u8, String, String);
@@ -37,6 +39,24 @@ fn reading() -> Vec<Row> {
 fn writing() -> Vec<Row> {
     let rows = (0..=u8::MAX).filter_map(|n| Some(row(n, WriteRefusal::from_number(n)?)));
     rows.collect()
+}
+
+fn configurations() -> Vec<Row> {
+    let rows = (0..=u8::MAX).filter_map(|n| Some(row(n, ConfigurationRefusal::from_number(n)?)));
+    rows.collect()
+}
+
+/// The numbers of the test of a configuration, with the names and words that they have elsewhere.
+#[test]
+fn numbers_of_the_test_of_a_configuration() {
+    let rows = configurations();
+    let numbers = rows.iter().map(|row| row.0).collect::<Vec<u8>>();
+    assert_eq!(numbers, CONFIGURATIONS);
+    assert!(rows.iter().all(|row| all().contains(row)));
+    for number in CONFIGURATIONS {
+        let refusal = ConfigurationRefusal::from_number(number).unwrap();
+        assert_eq!(refusal.number(), number);
+    }
 }
 
 #[test]

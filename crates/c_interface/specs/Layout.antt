@@ -5,9 +5,9 @@ use Rattle.versions.specs.Limits.{max_table}
 use Rattle.attempt.specs.Limits.{max_id}
 use Rattle.c_record.specs.declared.Record.{Record}
 
--- The name of `qv_interface_10` has this number too
+-- The name of `qv_interface_9` has this number too
 abbrev pub interface_version : ℕ
-interface_version = 10
+interface_version = 9
 
 -- The size of the record in bytes: a row and a version for each place of the table, two connection IDs, ten numbers, the
 -- answers of the journal. No padding, which C and Rust check

@@ -20,7 +20,7 @@ use refusals::{Call, Close, Refusal};
 use versions::MAX_TABLE;
 
 // The version of this interface; it changes with every function, record or answer that changes.
-pub const INTERFACE_VERSION: u32 = 10;
+pub const INTERFACE_VERSION: u32 = 9;
 // The size of the record in bytes.
 pub const RECORD_SIZE: usize = 12 * MAX_TABLE + 2 * MAX_ID + 40 + PLACES;
 // The close code that is none, for an unknown kind of call.
@@ -36,7 +36,7 @@ pub extern "C" fn qv_interface_version() -> u32
 // The same under a name that has the number: a program that was compiled for another interface does not link. The name
 // changes with INTERFACE_VERSION.
 #[unsafe(no_mangle)]
-pub extern "C" fn qv_interface_10() -> u32
+pub extern "C" fn qv_interface_9() -> u32
     ensures { result ≡ interface_version }
 {
     INTERFACE_VERSION

@@ -4,8 +4,8 @@
 use crate::configurations::{clients, pairs, sets, sorted, tables, WORLD};
 use crate::link::{information, link, negotiation, Client, End, Server, DESTINATION, SOURCE};
 use quic_version::{
-    choose, Attempt, ConfigurationFault, Pair, Refusal, Sender, WriteRefusal, VERSION_1 as ONE,
-    VERSION_2 as TWO,
+    choose, Attempt, ConfigurationFault, ConfigurationRefusal, Pair, Refusal, Sender, WriteRefusal,
+    VERSION_1 as ONE, VERSION_2 as TWO,
 };
 
 /// Every server of the world: the test of its configuration passes where it keeps the safe rule, and
@@ -224,28 +224,28 @@ fn lists_that_break_their_own_rules() {
                 offered: &[],
                 ..server
             },
-            WriteRefusal::BadOfferedTable,
+            ConfigurationRefusal::BadOfferedTable,
         ),
         (
             Server {
                 available: &many,
                 ..server
             },
-            WriteRefusal::InformationTooLong,
+            ConfigurationRefusal::InformationTooLong,
         ),
         (
             Server {
                 readable: &[0],
                 ..server
             },
-            WriteRefusal::BadTable,
+            ConfigurationRefusal::BadTable,
         ),
         (
             Server {
                 pairs: &equal,
                 ..server
             },
-            WriteRefusal::BadPairs,
+            ConfigurationRefusal::BadPairs,
         ),
     ] {
         let fault = ConfigurationFault::Refused(refusal);

@@ -5,7 +5,7 @@ use quic_version::ConfigurationFault::{
     self, AcceptedNotOffered, AvailableNotOffered, OfferedNotAccepted, OfferedNotAvailable,
     OfferedNotReadable, Refused,
 };
-use quic_version::{Pair, ServerConfiguration, WriteRefusal, MAX_AVAILABLE};
+use quic_version::{ConfigurationRefusal, Pair, ServerConfiguration, MAX_AVAILABLE};
 
 /// One comparison on the whole number.
 #[inline(never)]
@@ -33,16 +33,16 @@ fn outside(list: &[u32], other: &[u32]) -> Option<u32> {
 #[inline(never)]
 pub fn check(c: &ServerConfiguration<'_>) -> Result<(), ConfigurationFault> {
     if !choices::is_table(c.offered) {
-        return Err(Refused(WriteRefusal::BadOfferedTable));
+        return Err(Refused(ConfigurationRefusal::BadOfferedTable));
     }
     if c.available.len() > MAX_AVAILABLE {
-        return Err(Refused(WriteRefusal::InformationTooLong));
+        return Err(Refused(ConfigurationRefusal::InformationTooLong));
     }
     if !choices::is_table(c.readable) || !choices::is_table(c.accepted) {
-        return Err(Refused(WriteRefusal::BadTable));
+        return Err(Refused(ConfigurationRefusal::BadTable));
     }
     if !choices::are_pairs(c.pairs) {
-        return Err(Refused(WriteRefusal::BadPairs));
+        return Err(Refused(ConfigurationRefusal::BadPairs));
     }
     if let Some(version) = outside(c.accepted, c.offered) {
         return Err(AcceptedNotOffered(version));
