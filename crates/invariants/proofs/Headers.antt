@@ -1,9 +1,9 @@
 -- The header reader's refusals by form, for a datagram of 1 to 65,535 bytes: what is left to judge once 11 and
 -- emptiness are out.
 use Prim.Native.Nat.{ℕ, ◌+◌, ◌<◌, ◌≤◌}
-use mathlib.Core.Bool.{true, false, ◌&&◌}
+use mathlib.Core.Bool.{Bool, true, false, ◌&&◌}
 use mathlib.Core.List.{List, [], ◌∷◌}
-use mathlib.Core.Path.{◌≡◌}
+use mathlib.Core.Path.{◌≡◌, refl}
 use native.Mathlib.Omega.{arith}
 use borrow.Author.Tests.{le-ltb, lt-ltb, ne_eqb}
 use lib.Dec.{eqb}
@@ -25,6 +25,13 @@ short_reply d told =
     judged Reading ((12 when short_truncated d told) ∷ [])
     (answered (short (span 1 (1 + told)) (span (1 + told) (length d))))
 
+-- A rule that doesn't apply, after one that may
+no_list :
+    (test : Bool) (answer : Reply Form) →
+    judged Reading ((12 when test) ∷ (13 when false) ∷ []) answer ≡ judged Reading ((12 when test) ∷ []) answer
+no_list true answer = refl
+no_list false answer = refl
+
 module _ (d : List ℕ) (told : ℕ) where
   pub reads_over : max_datagram < length d → read_header d told ≡ refuse Reading 11
   unfolding read_header
@@ -41,4 +48,6 @@ module _ (d : List ℕ) (told : ℕ) where
 
     pub reads_short : is_long d ≡ false → read_header d told ≡ short_reply d told
     unfolding read_header
-    reads_short e = rw (le-ltb _ _ fits, ne_eqb (length d) 0 (λ z. omega arith), e)
+    reads_short e =
+        rw (le-ltb _ _ fits, ne_eqb (length d) 0 (λ z. omega arith), e)
+        (no_list (short_truncated d told) (answered (short (span 1 (1 + told)) (span (1 + told) (length d)))))

@@ -14,7 +14,7 @@ use Rattle.parameters.specs.Limits.{version_information}
 use Rattle.parameters.specs.Sequence.{Field, bytes_in, ids_of, repeats}
 use Rattle.parameters.specs.Reading.{carried}
 use Rattle.parameters.specs.Writing.{Content, contents_in, is_ours, ours, holds_ours, renewed, carrying}
-use Rattle.parameters.specs.Laws.{others, placed, with_ours}
+use Rattle.parameters.specs.Laws.{others, placed, placed_at, with_ours}
 
 -- Where not one of two holds, neither does
 pub neither : (a b : Bool) → (a || b) ≡ false → (a ≡ false) × (b ≡ false)
@@ -38,7 +38,7 @@ ids-contents s (f ∷ fs) = ap (λ (l : List ℕ). f.id ∷ l) (ids-contents s f
 pub ids-placed : (at : ℕ) (ps : List Content) → ids_of (placed at ps) ≡ ids_in ps
 unfolding ids_in placed ids_of
 ids-placed at [] = refl
-ids-placed at (p ∷ ps) = ap (λ (l : List ℕ). p.id ∷ l) (ids-placed _ ps)
+ids-placed at (p ∷ ps) = ap (λ (l : List ℕ). p.id ∷ l) (ids-placed (placed_at at p).value.end ps)
 
 -- Ours is there where its identifier is
 pub holds_elem : (ps : List Content) → holds_ours ps ≡ elem version_information (ids_in ps)
