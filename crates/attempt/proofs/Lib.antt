@@ -7,10 +7,9 @@ pub mod Demand3Journaled
 pub mod Injective
 pub mod Journaled
 pub mod Keeps
-pub mod OwnLists
+pub mod OwnListFacts
 pub mod Padded
 pub mod Phases
-pub mod PlainData
 pub mod Reaching
 pub mod Repeated
 pub mod ReservedChosen

@@ -29,7 +29,7 @@ use Rattle.attempt.specs.declared.End.{End}
 use Rattle.attempt.specs.declared.End.TheVariants as end
 use Rattle.attempt.specs.declared.Event.{Event}
 use Rattle.attempt.specs.declared.Event.TheVariants.{Datagram, PacketProcessed, Outcome}
-use Rattle.attempt.proofs.OwnLists.{members-word, word-of-row}
+use Rattle.attempt.proofs.OwnListFacts.{members-word, word-of-row}
 
 pub opened-reads : (x : Input) → Reads x (opened x)
 unfolding opened padded
