@@ -1,0 +1,18 @@
+-- `put_bytes`: after i bytes the buffer begins with them, and goes on as it was.
+use mathlib.Core.Path.{refl, ◌∙◌}
+use native.Mathlib.Omega.{arith}
+use lib.ListN.{length-set}
+use Rattle.lists.proofs.Places.{copy_step, copied}
+use Rattle.negotiation.proofs.put_bytes.Goals as goal
+
+pub loop-i-init : goal.loop-i-init
+loop-i-init c = (omega arith, refl, refl)
+
+pub loop-i-preserved : goal.loop-i-preserved
+loop-i-preserved c = let s = c.args.from.now in
+    let d = c.args.buffer.now in
+    let step = copy_step s d c.loop-i.i (omega arith) (omega arith) in
+    (omega arith, length-set c.loop-i.buffer _ _ ∙ c.loop-i.invariant.1, rw c.loop-i.invariant.2 step)
+
+pub returns : goal.returns
+returns c = copied _ _ _ c.loop-i.i (omega arith) c.loop-i.invariant.2
