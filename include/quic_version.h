@@ -20,7 +20,7 @@
  *  - x86-64 Linux.
  *
  * C99. Link with libquic_version.a, which scripts/install puts beside this header, or with
- * libc_interface.a, the same archive as `rt staticlib c_interface` makes it.
+ * libc_interface.a, the same archive as `scripts/library` makes it.
  */
 #ifndef QUIC_VERSION_H
 #define QUIC_VERSION_H

@@ -32,7 +32,7 @@ fn main() {
     if let Err(error) = fits(&archive) {
         stop(&format!("{}: {}", archive.display(), error));
     }
-    // A copy, so that what `rt ci` removes is not missed by the next build.
+    // A copy, so that what is removed with an out/ folder is not missed by the next build.
     let out = PathBuf::from(variable("OUT_DIR"));
     if let Err(error) = fs::copy(&archive, out.join(ARCHIVE)) {
         stop(&format!("{}: {}", archive.display(), error));
@@ -57,15 +57,13 @@ fn proved() -> PathBuf {
     for input in ["crates", "crates.txt"] {
         println!("cargo:rerun-if-changed={}", root.join(input).display());
     }
-    let made = Command::new("rt")
-        .args(["staticlib", "c_interface"])
-        .current_dir(&root)
-        .status();
+    let folder = root.join("crates").join("c_interface");
+    let made = Command::new("rt").arg("lib").current_dir(&folder).status();
     match made {
         Ok(status) if status.success() => {}
         Ok(status) => stop(&format!(
-            "`rt staticlib c_interface` failed: {}. If an earlier run was interrupted, remove the \
-             repository's target/ and try again",
+            "`rt lib` in crates/c_interface failed: {}. If an earlier run was interrupted, remove \
+             the folders crates/*/out and try again",
             status
         )),
         Err(error) if error.kind() == ErrorKind::NotFound => stop(&format!(
@@ -75,7 +73,7 @@ fn proved() -> PathBuf {
         )),
         Err(error) => stop(&format!("`rt` could not be run: {}", error)),
     }
-    root.join("target").join("staticlib").join(ARCHIVE)
+    folder.join("out").join(ARCHIVE)
 }
 
 /// Whether the archive has the interface of this crate: its symbols are names that end in a 0.

@@ -15,7 +15,7 @@ def read(path):
 
 def libraries():
     """The crates in the order of crates.txt, without the programs."""
-    crates = re.findall(r"^(\w+):", read(ROOT / "crates.txt"), re.M)
+    crates = re.findall(r"^(\w+)[^:\n#]*:", read(ROOT / "crates.txt"), re.M)
     return [crate for crate in crates if not (ROOT / "crates" / crate / "src/main.rt").exists()]
 
 
