@@ -54,8 +54,12 @@ fn proved() -> PathBuf {
         Some(root) => root.to_path_buf(),
         None => stop("this crate has to lie in its repository, as the folder rust/"),
     };
-    for input in ["crates", "crates.txt"] {
-        println!("cargo:rerun-if-changed={}", root.join(input).display());
+    println!(
+        "cargo:rerun-if-changed={}",
+        root.join("crates.txt").display()
+    );
+    for input in inputs(&root.join("crates")) {
+        println!("cargo:rerun-if-changed={}", input.display());
     }
     let folder = root.join("crates").join("c_interface");
     let made = Command::new("rt").arg("lib").current_dir(&folder).status();
@@ -74,6 +78,15 @@ fn proved() -> PathBuf {
         Err(error) => stop(&format!("`rt` could not be run: {}", error)),
     }
     folder.join("out").join(ARCHIVE)
+}
+
+/// What the archive is made of: of each crate all but out/, which the toolchain writes.
+fn inputs(crates: &Path) -> Vec<PathBuf> {
+    let folders = fs::read_dir(crates).into_iter().flatten().flatten();
+    folders
+        .flat_map(|folder| ["src", "specs", "proofs"].map(|part| folder.path().join(part)))
+        .filter(|part| part.exists())
+        .collect()
 }
 
 /// Whether the archive has the interface of this crate: its symbols are names that end in a 0.
