@@ -5,6 +5,7 @@
 ghost use Rattle.std.specs.Prelude.{◌≡◌};
 ghost use Rattle.attempt.specs.Step.{could_be_attempt};
 
+pub mod again; // the same value once more
 pub mod record; // a verdict, applied
 
 use attempt::{Attempt, MAX_ID};

@@ -1,0 +1,23 @@
+-- `judge_datagram` meets its contract: what could not be an attempt's is refused, all else is judged.
+use mathlib.Core.Bool.{true}
+use mathlib.Core.Path.{◌≡◌, sym, ◌∙◌}
+use Rattle.attempt.specs.Step.{step_of, could_be_attempt}
+use Rattle.attempt.specs.declared.Event.TheVariants.{Datagram}
+use Rattle.client_verdict.proofs.Judged.{any-refused, any-accepted, counts-could-be}
+use Rattle.client_datagram.proofs.judge_datagram.Goals.{Else-not-could_be_attempt}
+use Rattle.client_datagram.proofs.judge_datagram.Goals as goal
+
+passed : (c : Else-not-could_be_attempt) → could_be_attempt c.args.attempt ≡ true
+passed c = sym (rw c.record_again.ensures at c.could_be_attempt.ensures) ∙ c.if-not-could_be_attempt.false
+
+pub returns-then-not-could_be_attempt : goal.returns-then-not-could_be_attempt
+returns-then-not-could_be_attempt c = any-refused c.args.attempt _ _
+    (sym (rw c.record_again.ensures at c.could_be_attempt.ensures) ∙ c.if-not-could_be_attempt.true)
+
+pub on_datagram-requires : goal.on_datagram-requires
+on_datagram-requires c = counts-could-be c.args.attempt (passed (goal.at.on_datagram-requires c).Else-not-could_be_attempt)
+
+pub returns : goal.returns
+unfolding step_of
+returns c = let g = c.args in
+    c.on_datagram.ensures ∙ any-accepted g.attempt Datagram g.datagram.now (passed (goal.at.returns c).Else-not-could_be_attempt)
