@@ -8,14 +8,15 @@ use attempt::{Attempt, Event};
 use client_start::start;
 use client_step::step_any;
 use journal::{Journal, note};
+use std::io;
 
-pub(crate) fn all() {
-    journal(b"journal of a start: ", records::plain());
-    around_the_packet();
-    the_eight_run_over();
-    started_again();
-    no_record();
-    near_the_stop();
+pub(crate) fn all(rt: &impl Print) -> io::Result<()> {
+    journal(rt, "journal of a start: ", records::plain())?;
+    around_the_packet(rt)?;
+    the_eight_run_over(rt)?;
+    started_again(rt)?;
+    no_record(rt)?;
+    near_the_stop(rt)
 }
 
 // A datagram that is no Version Negotiation packet (61), one for another connection (63), one that lists the Original
@@ -37,49 +38,52 @@ fn through_the_packet() -> Attempt
     records::after_outcome(fifth, 14, b"\0\0\0\x0e\0\0\0\x0d\0\0\0\x0e")
 }
 
-fn around_the_packet() {
+fn around_the_packet(rt: &impl Print) -> io::Result<()> {
     journal(
-        b"journal of P4 with refused events around it: ",
+        rt,
+        "journal of P4 with refused events around it: ",
         through_the_packet(),
-    );
+    )
 }
 
 // Events after the end are noted too, and the oldest answers go.
-fn the_eight_run_over() {
+fn the_eight_run_over(rt: &impl Print) -> io::Result<()> {
     let seventh = records::after_packet(through_the_packet());
     let eighth = records::after_datagram(seventh, b"\x40");
-    journal(b"and two events after the end: ", eighth);
+    journal(rt, "and two events after the end: ", eighth)?;
     let ninth = records::after_missing(eighth, 14);
-    journal(b"and a third: ", ninth);
+    journal(rt, "and a third: ", ninth)
 }
 
 // A start hands back an empty journal, whatever was in the place before.
-fn started_again() {
-    journal(b"journal of a start after it: ", records::paired());
+fn started_again(rt: &impl Print) -> io::Result<()> {
+    journal(rt, "journal of a start after it: ", records::paired())
 }
 
 // 255 is no answer of an event: on the record of a refused start nothing is noted.
-fn no_record() {
+fn no_record(rt: &impl Print) -> io::Result<()> {
     let started = start(&[14, 12, 10], &[], &[], 13, &[], &[]);
     let stepped = step_any(started.attempt, Event::PacketProcessed, &[]);
     let left = stepped.attempt;
     told(
-        b"journal of a refused start's record after an event: ",
+        rt,
+        "journal of a refused start's record after an event: ",
         left.journal,
-    );
+    )
 }
 
 // "stopping at 4,294,967,295 while the answers go on"
-fn near_the_stop() {
+fn near_the_stop(rt: &impl Print) -> io::Result<()> {
     let before = Journal {
         answers: [1, 2, 3, 4, 5, 6, 7, 8],
         count: 4294967294,
     };
     let at_the_stop = note(before, 61);
     told(
-        b"journal one answer before the stop of its count, and 61: ",
+        rt,
+        "journal one answer before the stop of its count, and 61: ",
         at_the_stop,
-    );
+    )?;
     let past_it = note(at_the_stop, 64);
-    told(b"and 64: ", past_it);
+    told(rt, "and 64: ", past_it)
 }

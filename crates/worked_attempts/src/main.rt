@@ -14,12 +14,14 @@ mod show_client; // one start, own list, Version Information or event and one li
 mod slip_cases; // "Slips the old code made, or nearly": the client's
 mod start_refusals; // "When the desk says no": 43 to 45
 
-fn main() {
-    attempt_cases::all();
-    start_refusals::all();
-    event_refusals::all();
-    slip_cases::all();
-    barred_cases::all();
-    reserved_cases::all();
-    journal_cases::all();
+use std::io;
+
+fn main(rt: HostRuntime) -> io::Result<()> {
+    attempt_cases::all(&rt)?;
+    start_refusals::all(&rt)?;
+    event_refusals::all(&rt)?;
+    slip_cases::all(&rt)?;
+    barred_cases::all(&rt)?;
+    reserved_cases::all(&rt)?;
+    journal_cases::all(&rt)
 }

@@ -11,176 +11,197 @@ use information::Presence;
 use journal::{Journal, tell};
 use lists::{Entry, VERSION_BYTES, entry_at};
 use refusals::Written;
+use std::io;
 
 // A start with table 14, 12, 10 and nothing barred, which may be refused.
 pub(crate) fn begin(
-    label: &[u8],
+    rt: &impl Print,
+    label: &str,
     pairs: &[[u32; 2]],
     original: u32,
     destination: &[u8],
     source: &[u8],
-) {
-    begin_barring(label, pairs, &[], original, destination, source)
+) -> io::Result<()> {
+    begin_barring(rt, label, pairs, &[], original, destination, source)
 }
 
 // The same with barred pairs.
 pub(crate) fn begin_barring(
-    label: &[u8],
+    rt: &impl Print,
+    label: &str,
     pairs: &[[u32; 2]],
     barred: &[[u32; 2]],
     original: u32,
     destination: &[u8],
     source: &[u8],
-) {
-    text(label);
+) -> io::Result<()> {
+    text(rt, label)?;
     let started = start(&[14, 12, 10], pairs, barred, original, destination, source);
     let answer = started.answer;
     match answer {
-        StartAnswer::Refused(refusal) => refused(refusal),
-        StartAnswer::Opened => text(b"opened"),
+        StartAnswer::Refused(refusal) => refused(rt, refusal)?,
+        StartAnswer::Opened => text(rt, "opened")?,
     }
-    text(b"\n");
+    text(rt, "\n")
 }
 
 // The own list of an attempt.
-pub(crate) fn own(label: &[u8], attempt: Attempt) {
-    text(label);
+pub(crate) fn own(rt: &impl Print, label: &str, attempt: Attempt) -> io::Result<()> {
+    text(rt, label)?;
     let own = own_list(attempt);
     let list = own.versions;
     let count = own.count;
-    versions(&list, count);
-    text(b"\n");
+    versions(rt, &list, count)?;
+    text(rt, "\n")
 }
 
 // The Version Information of an attempt's client, with reserved numbers and their places: its numbers in their order.
-pub(crate) fn sent(label: &[u8], attempt: Attempt, reserved: &[[u32; 2]], buffer: &mut [u8]) {
-    text(label);
+pub(crate) fn sent(
+    rt: &impl Print,
+    label: &str,
+    attempt: Attempt,
+    reserved: &[[u32; 2]],
+    buffer: &mut [u8],
+) -> io::Result<()> {
+    text(rt, label)?;
     match write_client_information(attempt, reserved, buffer) {
         Written::Refused(refusal) => {
-            text(b" ");
-            refused(refusal);
+            text(rt, " ")?;
+            refused(rt, refusal)?;
         }
-        Written::Count(count) => numbers(buffer, count),
+        Written::Count(count) => numbers(rt, buffer, count)?,
     }
-    text(b"\n");
+    text(rt, "\n")
 }
 
 // The numbers that lie in the first bytes, as many as `count`.
-fn numbers(bytes: &[u8], count: usize) {
-    let mut place = 0;
-    while place < count / VERSION_BYTES {
+fn numbers(rt: &impl Print, bytes: &[u8], count: usize) -> io::Result<()> {
+    for place in 0..count / VERSION_BYTES {
         match entry_at(bytes, place) {
-            Entry::Version(number) => version(b" ", number),
+            Entry::Version(number) => version(rt, " ", number)?,
             Entry::Nothing => {}
         }
-        place += 1;
     }
+    Ok(())
 }
 
-fn answered(answer: Answer) {
+fn answered(rt: &impl Print, answer: Answer) -> io::Result<()> {
     match answer {
-        Answer::Refused(refusal) => refused(refusal),
-        Answer::Acted(attempted) => version(b"attempt ", attempted),
-        Answer::Noted => text(b"noted"),
-        Answer::Completed(in_use) => version(b"complete with ", in_use),
+        Answer::Refused(refusal) => refused(rt, refusal),
+        Answer::Acted(attempted) => version(rt, "attempt ", attempted),
+        Answer::Noted => text(rt, "noted"),
+        Answer::Completed(in_use) => version(rt, "complete with ", in_use),
     }
 }
 
 // How an attempt stands.
-fn standing(end: End) {
+fn standing(rt: &impl Print, end: End) -> io::Result<()> {
     match end {
-        End::Open => text(b"; record open\n"),
+        End::Open => text(rt, "; record open\n"),
         End::Completed(in_use) => {
-            version(b"; record completed with ", in_use);
-            text(b"\n");
+            version(rt, "; record completed with ", in_use)?;
+            text(rt, "\n")
         }
         End::Closed(cause) => {
-            text(b"; record closed with ");
-            number(cause as u64);
-            text(b"\n");
+            text(rt, "; record closed with ")?;
+            number(rt, cause as u64)?;
+            text(rt, "\n")
         }
     }
 }
 
 // One event: the answer, and how the attempt stands then.
-fn event(label: &[u8], attempt: Attempt, event: Event, bytes: &[u8])
+fn event(
+    rt: &impl Print,
+    label: &str,
+    attempt: Attempt,
+    event: Event,
+    bytes: &[u8],
+) -> io::Result<()>
     requires { Reachable attempt }
 {
     let stepped = step(attempt, event, bytes);
     let next = stepped.attempt;
     let answer = stepped.answer;
     let end = next.end;
-    text(label);
-    answered(answer);
-    standing(end);
+    text(rt, label)?;
+    answered(rt, answer)?;
+    standing(rt, end)
 }
 
 // A datagram came.
-pub(crate) fn datagram(label: &[u8], attempt: Attempt, bytes: &[u8])
+pub(crate) fn datagram(
+    rt: &impl Print,
+    label: &str,
+    attempt: Attempt,
+    bytes: &[u8],
+) -> io::Result<()>
     requires { Reachable attempt }
 {
-    event(label, attempt, Event::Datagram, bytes)
+    event(rt, label, attempt, Event::Datagram, bytes)
 }
 
 // A genuine packet other than Version Negotiation was processed (document 01's "heard").
-pub(crate) fn processed(label: &[u8], attempt: Attempt)
+pub(crate) fn processed(rt: &impl Print, label: &str, attempt: Attempt) -> io::Result<()>
     requires { Reachable attempt }
 {
-    event(label, attempt, Event::PacketProcessed, &[])
+    event(rt, label, attempt, Event::PacketProcessed, &[])
 }
 
 // The handshake ended, with Version Information.
-pub(crate) fn outcome(label: &[u8], attempt: Attempt, in_use: u32, bytes: &[u8])
+pub(crate) fn outcome(
+    rt: &impl Print,
+    label: &str,
+    attempt: Attempt,
+    in_use: u32,
+    bytes: &[u8],
+) -> io::Result<()>
     requires { Reachable attempt }
 {
     let given = Event::Outcome {
         in_use,
         information: Presence::Given,
     };
-    event(label, attempt, given, bytes)
+    event(rt, label, attempt, given, bytes)
 }
 
 // The handshake ended, and Version Information is missing.
-pub(crate) fn missing(label: &[u8], attempt: Attempt, in_use: u32)
+pub(crate) fn missing(rt: &impl Print, label: &str, attempt: Attempt, in_use: u32) -> io::Result<()>
     requires { Reachable attempt }
 {
     let missing = Event::Outcome {
         in_use,
         information: Presence::Missing,
     };
-    event(label, attempt, missing, &[])
+    event(rt, label, attempt, missing, &[])
 }
 
 // The journal of an attempt.
-pub(crate) fn journal(label: &[u8], attempt: Attempt) {
-    told(label, attempt.journal)
+pub(crate) fn journal(rt: &impl Print, label: &str, attempt: Attempt) -> io::Result<()> {
+    told(rt, label, attempt.journal)
 }
 
 // What a journal tells: the count of all events, and the answers in the places that are used.
-pub(crate) fn told(label: &[u8], journal: Journal) {
+pub(crate) fn told(rt: &impl Print, label: &str, journal: Journal) -> io::Result<()> {
     let told = tell(journal);
     let answers = told.answers;
     let used = told.used;
-    text(label);
-    number(told.count as u64);
-    text(b" events, answers");
-    noted(&answers, used);
-    text(b"\n");
+    text(rt, label)?;
+    number(rt, told.count as u64)?;
+    text(rt, " events, answers")?;
+    noted(rt, &answers, used)?;
+    text(rt, "\n")
 }
 
 // The first answers, as many as `used`, each behind a space.
-fn noted(answers: &[u8], used: usize) {
-    let mut i = 0;
-    while i < answers.len() {
-        if used <= i {
-            return;
-        }
-        answer(answers[i]);
-        i += 1;
+fn noted(rt: &impl Print, answers: &[u8], used: usize) -> io::Result<()> {
+    for value in answers.iter().take(used) {
+        answer(rt, *value)?;
     }
+    Ok(())
 }
 
-fn answer(value: u8) {
-    text(b" ");
-    number(value as u64);
+fn answer(rt: &impl Print, value: u8) -> io::Result<()> {
+    text(rt, " ")?;
+    number(rt, value as u64)
 }

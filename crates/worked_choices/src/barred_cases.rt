@@ -2,56 +2,68 @@
 use crate::show::decision_barring;
 use information::Presence;
 use server::MAX_BARRED;
+use std::io;
 
-pub(crate) fn all() {
+pub(crate) fn all(rt: &impl Print) -> io::Result<()> {
     flight(
-        b"reads 3, first flight in 3, Chosen 3, Available 3, 4, accepting 4, 3, pair 3 to 4, 4 barred: ",
+        rt,
+        "reads 3, first flight in 3, Chosen 3, Available 3, 4, accepting 4, 3, pair 3 to 4, 4 barred: ",
         &[4, 3],
         &[4],
-    );
-    flight(b"the same with 3 barred, which is Chosen: ", &[4, 3], &[3]);
-    flight(b"the same with 3, 4 barred: ", &[4, 3], &[3, 4]);
+    )?;
     flight(
-        b"the same with 0, 0, 0x1a2a3a4a, 99 barred: ",
+        rt,
+        "the same with 3 barred, which is Chosen: ",
+        &[4, 3],
+        &[3],
+    )?;
+    flight(rt, "the same with 3, 4 barred: ", &[4, 3], &[3, 4])?;
+    flight(
+        rt,
+        "the same with 0, 0, 0x1a2a3a4a, 99 barred: ",
         &[4, 3],
         &[0, 0, 0x1a2a3a4a, 99],
-    );
-    flight(b"accepting 4 alone, 4 barred: ", &[4], &[4]);
+    )?;
+    flight(rt, "accepting 4 alone, 4 barred: ", &[4], &[4])?;
     decision_barring(
-        b"accepting 4, 3, 3, 4 barred, information missing: ",
+        rt,
+        "accepting 4, 3, 3, 4 barred, information missing: ",
         &[4, 3],
         &[[3, 4]],
         &[3, 4],
         3,
         Presence::Missing,
         &[],
-    );
-    at_the_limit();
+    )?;
+    at_the_limit(rt)
 }
 
 // As many as there may be, and one more.
-fn at_the_limit() {
+fn at_the_limit(rt: &impl Print) -> io::Result<()> {
     let barred = [4u32; MAX_BARRED + 1];
     flight(
-        b"accepting 4, 3, 64 times 4 barred: ",
+        rt,
+        "accepting 4, 3, 64 times 4 barred: ",
         &[4, 3],
         &barred[..MAX_BARRED],
-    );
-    flight(b"accepting 4, 3, 65 times 4 barred: ", &[4, 3], &barred);
+    )?;
+    flight(rt, "accepting 4, 3, 65 times 4 barred: ", &[4, 3], &barred)?;
     decision_barring(
-        b"first flight in 9, which is not readable, 65 times 4 barred: ",
+        rt,
+        "first flight in 9, which is not readable, 65 times 4 barred: ",
         &[4, 3],
         &[[3, 4]],
         &barred,
         9,
         Presence::Given,
         &[],
-    );
+    )
 }
 
 // After a first flight in 3 with Chosen 3, Available 3, 4.
-fn flight(label: &[u8], accepted: &[u32], barred: &[u32]) {
+fn flight(rt: &impl Print, label: &str, accepted: &[u32], barred: &[u32]) -> io::Result<()> {
     decision_barring(
+        rt,
         label,
         accepted,
         &[[3, 4]],
@@ -59,5 +71,5 @@ fn flight(label: &[u8], accepted: &[u32], barred: &[u32]) {
         3,
         Presence::Given,
         b"\0\0\0\x03\0\0\0\x03\0\0\0\x04",
-    );
+    )
 }

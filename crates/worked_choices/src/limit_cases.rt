@@ -2,6 +2,7 @@
 use crate::say::{text, version};
 use crate::show::{choice, decision};
 use information::Presence;
+use std::io;
 use versions::{MAX_PAIRS, MAX_TABLE};
 
 // One entry more than a table may have, and one pair more.
@@ -9,41 +10,45 @@ const ENTRIES: usize = MAX_TABLE + 1;
 
 const PAIRS: usize = MAX_PAIRS + 1;
 
-pub(crate) fn all() {
+pub(crate) fn all(rt: &impl Print) -> io::Result<()> {
     let versions = counted();
     let last = versions[MAX_TABLE - 1];
-    version(b"most entries of a table: ", last);
-    text(b"\n");
+    version(rt, "most entries of a table: ", last)?;
+    text(rt, "\n")?;
     choice(
-        b"table with as many, list its last entry: ",
+        rt,
+        "table with as many, list its last entry: ",
         most(&versions),
         &[last],
-    );
+    )?;
     choice(
-        b"table with one entry more, list the same: ",
+        rt,
+        "table with one entry more, list the same: ",
         &versions,
         &[last],
-    );
-    version(b"most pairs: ", MAX_PAIRS as u32);
-    text(b"\n");
+    )?;
+    version(rt, "most pairs: ", MAX_PAIRS as u32)?;
+    text(rt, "\n")?;
     let pairs = [[3u32, 4]; PAIRS];
     flight(
-        b"reads 3, first flight in 3, Chosen 3, Available 3, 4, accepting 4, 3, as many pairs 3 to 4: ",
+        rt,
+        "reads 3, first flight in 3, Chosen 3, Available 3, 4, accepting 4, 3, as many pairs 3 to 4: ",
         &pairs[..MAX_PAIRS],
-    );
-    flight(b"the same with one pair more: ", &pairs);
+    )?;
+    flight(rt, "the same with one pair more: ", &pairs)
 }
 
 // The server's choice after a first flight in 3 with Chosen 3, Available 3, 4.
-fn flight(label: &[u8], pairs: &[[u32; 2]]) {
+fn flight(rt: &impl Print, label: &str, pairs: &[[u32; 2]]) -> io::Result<()> {
     decision(
+        rt,
         label,
         &[4, 3],
         pairs,
         3,
         Presence::Given,
         b"\0\0\0\x03\0\0\0\x03\0\0\0\x04",
-    );
+    )
 }
 
 // The versions 1, 2, 3 and so on.

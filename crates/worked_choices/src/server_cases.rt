@@ -2,82 +2,92 @@
 // that are not marked P.
 use crate::show::decision;
 use information::Presence;
+use std::io;
 
-pub(crate) fn all() {
-    by_the_server();
-    of_the_server();
-    calls();
+pub(crate) fn all(rt: &impl Print) -> io::Result<()> {
+    by_the_server(rt)?;
+    of_the_server(rt)?;
+    calls(rt)
 }
 
-fn by_the_server() {
+fn by_the_server(rt: &impl Print) -> io::Result<()> {
     decision(
-        b"reads 3, accepts 4, 3, first flight in 9, malformed information: ",
+        rt,
+        "reads 3, accepts 4, 3, first flight in 9, malformed information: ",
         &[4, 3],
         &[],
         9,
         Presence::Given,
         &[],
-    );
+    )?;
     decision(
-        b"reads 3, accepts 4, 3, first flight in 3, information missing: ",
+        rt,
+        "reads 3, accepts 4, 3, first flight in 3, information missing: ",
         &[4, 3],
         &[],
         3,
         Presence::Missing,
         &[],
-    );
+    )?;
     decision(
-        b"reads 3, accepts 4, first flight in 3, information missing: ",
+        rt,
+        "reads 3, accepts 4, first flight in 3, information missing: ",
         &[4],
         &[],
         3,
         Presence::Missing,
         &[],
-    );
+    )
 }
 
-fn of_the_server() {
+fn of_the_server(rt: &impl Print) -> io::Result<()> {
     decision(
-        b"reads 3, accepts 4, 3, first flight in 3, Chosen 4, Available 4, 3: ",
+        rt,
+        "reads 3, accepts 4, 3, first flight in 3, Chosen 4, Available 4, 3: ",
         &[4, 3],
         &[],
         3,
         Presence::Given,
         b"\0\0\0\x04\0\0\0\x04\0\0\0\x03",
-    );
+    )
 }
 
-fn calls() {
+fn calls(rt: &impl Print) -> io::Result<()> {
     flight(
-        b"reads 3, first flight in 3, Chosen 3, Available 3, 4, accepting 4, 3, pair 3 to 4: ",
+        rt,
+        "reads 3, first flight in 3, Chosen 3, Available 3, 4, accepting 4, 3, pair 3 to 4: ",
         &[4, 3],
         &[[3, 4]],
-    );
+    )?;
     flight(
-        b"reads 3, first flight in 3, Chosen 3, Available 3, 4, accepting 4, 3, pair 4 to 3: ",
+        rt,
+        "reads 3, first flight in 3, Chosen 3, Available 3, 4, accepting 4, 3, pair 4 to 3: ",
         &[4, 3],
         &[[4, 3]],
-    );
+    )?;
     flight(
-        b"reads 3, first flight in 3, Chosen 3, Available 3, 4, accepting 4, 3, no pair: ",
+        rt,
+        "reads 3, first flight in 3, Chosen 3, Available 3, 4, accepting 4, 3, no pair: ",
         &[4, 3],
         &[],
-    );
+    )?;
     flight(
-        b"reads 3, first flight in 3, Chosen 3, Available 3, 4, accepting 4, no pair: ",
+        rt,
+        "reads 3, first flight in 3, Chosen 3, Available 3, 4, accepting 4, no pair: ",
         &[4],
         &[],
-    );
+    )
 }
 
 // After a first flight in 3 with Chosen 3, Available 3, 4.
-fn flight(label: &[u8], accepted: &[u32], pairs: &[[u32; 2]]) {
+fn flight(rt: &impl Print, label: &str, accepted: &[u32], pairs: &[[u32; 2]]) -> io::Result<()> {
     decision(
+        rt,
         label,
         accepted,
         pairs,
         3,
         Presence::Given,
         b"\0\0\0\x03\0\0\0\x03\0\0\0\x04",
-    );
+    )
 }

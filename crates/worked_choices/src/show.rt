@@ -4,74 +4,83 @@ use choosing::{Choice, choose_from};
 use information::Presence;
 use server::{Decision, choose_after_first_flight};
 use sets::{Held, ListWord, choose_by_word, choose_from_word, count_held, list_word};
+use std::io;
 
 // The choice of a server that reads 3, after a first flight for which nothing is barred.
 pub(crate) fn decision(
-    label: &[u8],
+    rt: &impl Print,
+    label: &str,
     accepted: &[u32],
     pairs: &[[u32; 2]],
     flight: u32,
     presence: Presence,
     bytes: &[u8],
-) {
-    decision_barring(label, accepted, pairs, &[], flight, presence, bytes)
+) -> io::Result<()> {
+    decision_barring(rt, label, accepted, pairs, &[], flight, presence, bytes)
 }
 
 // The same with versions that are barred for the flight.
 pub(crate) fn decision_barring(
-    label: &[u8],
+    rt: &impl Print,
+    label: &str,
     accepted: &[u32],
     pairs: &[[u32; 2]],
     barred: &[u32],
     flight: u32,
     presence: Presence,
     bytes: &[u8],
-) {
-    text(label);
+) -> io::Result<()> {
+    text(rt, label)?;
     match choose_after_first_flight(&[3], accepted, pairs, barred, flight, presence, bytes) {
-        Decision::Refused(refusal) => refused(refusal),
-        Decision::Negotiate => text(b"negotiate"),
-        Decision::Use(chosen) => version(b"use ", chosen),
+        Decision::Refused(refusal) => refused(rt, refusal)?,
+        Decision::Negotiate => text(rt, "negotiate")?,
+        Decision::Use(chosen) => version(rt, "use ", chosen)?,
     }
-    text(b"\n");
+    text(rt, "\n")
 }
 
 // The choice from a list.
-pub(crate) fn choice(label: &[u8], table: &[u32], list: &[u32]) {
-    text(label);
-    chosen(choose_from(table, list));
-    text(b"\n");
+pub(crate) fn choice(rt: &impl Print, label: &str, table: &[u32], list: &[u32]) -> io::Result<()> {
+    text(rt, label)?;
+    chosen(rt, choose_from(table, list))?;
+    text(rt, "\n")
 }
 
 // The choice from a list by its word: the word, how many table entries the list holds, and the choice.
-pub(crate) fn by_word(label: &[u8], table: &[u32], list: &[u32]) {
-    text(label);
-    word(list_word(table, list));
-    text(b"; ");
+pub(crate) fn by_word(rt: &impl Print, label: &str, table: &[u32], list: &[u32]) -> io::Result<()> {
+    text(rt, label)?;
+    word(rt, list_word(table, list))?;
+    text(rt, "; ")?;
     match count_held(table, list) {
-        Held::Refused(refusal) => refused(refusal),
+        Held::Refused(refusal) => refused(rt, refusal)?,
         Held::Count(count) => {
-            text(b"holds ");
-            number(count as u64);
+            text(rt, "holds ")?;
+            number(rt, count as u64)?;
         }
     }
-    text(b"; ");
-    chosen(choose_by_word(table, list));
-    text(b"\n");
+    text(rt, "; ")?;
+    chosen(rt, choose_by_word(table, list))?;
+    text(rt, "\n")
 }
 
 // The choice from a word.
-pub(crate) fn from_word(label: &[u8], table: &[u32], word: u64) {
-    text(label);
-    chosen(choose_from_word(table, word));
-    text(b"\n");
+pub(crate) fn from_word(rt: &impl Print, label: &str, table: &[u32], word: u64) -> io::Result<()> {
+    text(rt, label)?;
+    chosen(rt, choose_from_word(table, word))?;
+    text(rt, "\n")
 }
 
 // The choice from the words of two lists, joined.
-pub(crate) fn joined(label: &[u8], table: &[u32], a: &[u32], b: &[u32]) {
+pub(crate) fn joined(
+    rt: &impl Print,
+    label: &str,
+    table: &[u32],
+    a: &[u32],
+    b: &[u32],
+) -> io::Result<()> {
     let first = bits(list_word(table, a));
     let second = bits(list_word(table, b));
-    from_word(label, table, first | second);
+    from_word(rt, label, table, first | second)
 }
 
 // The bits of a word; none where it was refused.
@@ -82,19 +91,19 @@ fn bits(answer: ListWord) -> u64 {
     }
 }
 
-fn word(answer: ListWord) {
+fn word(rt: &impl Print, answer: ListWord) -> io::Result<()> {
     match answer {
-        ListWord::Refused(refusal) => refused(refusal),
+        ListWord::Refused(refusal) => refused(rt, refusal),
         ListWord::Word(word) => {
-            text(b"word ");
-            number(word);
+            text(rt, "word ")?;
+            number(rt, word)
         }
     }
 }
 
-fn chosen(answer: Choice) {
+fn chosen(rt: &impl Print, answer: Choice) -> io::Result<()> {
     match answer {
-        Choice::Refused(refusal) => refused(refusal),
-        Choice::Version(chosen) => version(b"choose ", chosen),
+        Choice::Refused(refusal) => refused(rt, refusal),
+        Choice::Version(chosen) => version(rt, "choose ", chosen),
     }
 }

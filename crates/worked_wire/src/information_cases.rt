@@ -1,51 +1,58 @@
 // "Version Information": what is written and read.
 use crate::show::{received, sent};
 use information::Sender;
+use std::io;
 
-pub(crate) fn all() {
-    written();
-    read();
+pub(crate) fn all(rt: &impl Print) -> io::Result<()> {
+    written(rt)?;
+    read(rt)
 }
 
 // The buffer has two bytes more than the information. They keep their values.
-fn written() {
+fn written(rt: &impl Print) -> io::Result<()> {
     let mut buffer = [0xeeu8; 14];
     sent(
-        b"information to send as a client, Chosen 3, Available 3, 4: ",
+        rt,
+        "information to send as a client, Chosen 3, Available 3, 4: ",
         Sender::Client,
         3,
         &[3, 4],
         &mut buffer,
-    );
+    )?;
     let mut short = [0xeeu8; 6];
     sent(
-        b"information to send as a server, Chosen 3, Available empty: ",
+        rt,
+        "information to send as a server, Chosen 3, Available empty: ",
         Sender::Server,
         3,
         &[],
         &mut short,
-    );
+    )
 }
 
-fn read() {
+fn read(rt: &impl Print) -> io::Result<()> {
     received(
-        b"information from a client, Chosen 3, Available 3, 4: ",
+        rt,
+        "information from a client, Chosen 3, Available 3, 4: ",
         Sender::Client,
         b"\0\0\0\x03\0\0\0\x03\0\0\0\x04",
-    );
+    )?;
     received(
-        b"information from a server, Chosen 3, Available 4: ",
+        rt,
+        "information from a server, Chosen 3, Available 4: ",
         Sender::Server,
         b"\0\0\0\x03\0\0\0\x04",
-    );
+    )?;
     received(
-        b"information from a server, Chosen 3, Available empty: ",
+        rt,
+        "information from a server, Chosen 3, Available empty: ",
         Sender::Server,
         b"\0\0\0\x03",
-    );
+    )?;
     received(
-        b"information from a client, Chosen and Available 0x1a2a3a4a (reserved): ",
+        rt,
+        "information from a client, Chosen and Available 0x1a2a3a4a (reserved): ",
         Sender::Client,
         b"\x1a\x2a\x3a\x4a\x1a\x2a\x3a\x4a",
-    );
+    )
 }

@@ -16,14 +16,16 @@ mod show; // one call of the library and one line
 mod slip_cases; // "Slips the old code made, or nearly": the packet
 mod wire_refusals; // "When the desk says no": 11 to 37
 
-fn main() {
-    datagram_cases::all();
-    packet_cases::all();
-    information_cases::all();
-    wire_refusals::all();
-    call_cases::all();
-    slip_cases::all();
-    integer_cases::all();
-    parameter_cases::all();
-    reserved_cases::all();
+use std::io;
+
+fn main(rt: HostRuntime) -> io::Result<()> {
+    datagram_cases::all(&rt)?;
+    packet_cases::all(&rt)?;
+    information_cases::all(&rt)?;
+    wire_refusals::all(&rt)?;
+    call_cases::all(&rt)?;
+    slip_cases::all(&rt)?;
+    integer_cases::all(&rt)?;
+    parameter_cases::all(&rt)?;
+    reserved_cases::all(&rt)
 }

@@ -3,6 +3,7 @@ use crate::show::{packet, packet_count};
 use invariants::MAX_CONNECTION_ID;
 use lists::VERSION_BYTES;
 use negotiation::MIN_ANSWERED_DATAGRAM;
+use std::io;
 use versions::{MAX_RESERVED, MAX_TABLE};
 
 // The bytes of the longest packet: two of the longest connection IDs, a full table offered, all reserved numbers.
@@ -10,29 +11,31 @@ const LONGEST: usize = 7 + 2 * MAX_CONNECTION_ID + VERSION_BYTES * (MAX_TABLE + 
 // One entry more than a table may have.
 const ENTRIES: usize = MAX_TABLE + 1;
 
-pub(crate) fn all() {
-    whole_case();
-    longest();
+pub(crate) fn all(rt: &impl Print) -> io::Result<()> {
+    whole_case(rt)?;
+    longest(rt)
 }
 
 // The buffer has two bytes more than the packet. They keep their values.
-fn whole_case() {
+fn whole_case(rt: &impl Print) -> io::Result<()> {
     let mut buffer = [0xeeu8; 24];
     packet(
-        b"packet for c0 00 00 00 0c 02 aa bb 01 cc ff alone, offered 14, 13, 10, bits 64: ",
+        rt,
+        "packet for c0 00 00 00 0c 02 aa bb 01 cc ff alone, offered 14, 13, 10, bits 64: ",
         b"\xc0\0\0\0\x0c\x02\xaa\xbb\x01\xcc\xff",
         &[14, 13, 10],
         64,
         &mut buffer,
-    );
+    )?;
     let datagram = padded_case();
     packet(
-        b"packet for the same followed by zeros up to 1200 bytes: ",
+        rt,
+        "packet for the same followed by zeros up to 1200 bytes: ",
         &datagram,
         &[14, 13, 10],
         64,
         &mut buffer,
-    );
+    )
 }
 
 // The whole case, which has version 12, followed by zeros up to the fewest bytes that are answered.
@@ -51,31 +54,34 @@ pub(crate) fn padded_case() -> [u8; MIN_ANSWERED_DATAGRAM] {
 
 // Each byte of the datagram is 255, and so is the length of each connection ID. The buffer has no byte more than the
 // longest packet.
-fn longest() {
+fn longest(rt: &impl Print) -> io::Result<()> {
     let datagram = [255u8; MIN_ANSWERED_DATAGRAM];
     let offered = counted();
     let mut buffer = [0u8; LONGEST];
     packet_count(
-        b"packet for connection IDs of 255 bytes, a full table offered: ",
+        rt,
+        "packet for connection IDs of 255 bytes, a full table offered: ",
         &datagram,
         most(&offered),
         &[],
         &mut buffer,
-    );
+    )?;
     packet_count(
-        b"packet for the same, with four reserved numbers: ",
+        rt,
+        "packet for the same, with four reserved numbers: ",
         &datagram,
         most(&offered),
         &[0x1a2a3a4a, 0x0a0a0a0a, 0xfafafafa, 0x5a6a7a8a],
         &mut buffer,
-    );
+    )?;
     packet_count(
-        b"packet for the same, a table with one entry more offered: ",
+        rt,
+        "packet for the same, a table with one entry more offered: ",
         &datagram,
         &offered,
         &[],
         &mut buffer,
-    );
+    )
 }
 
 // The versions 1, 2, 3 and so on, one more than a table may have.

@@ -1,6 +1,7 @@
 // Document 02, C-11: a sequence of transport parameters, read and written, and 80, 81, 82, 84, 85.
 use crate::show::{carried, carrying};
 use parameters::{MAX_PARAMETERS, MAX_SEQUENCE};
+use std::io;
 
 // One more than a sequence may have, of three bytes each.
 const MANY: usize = MAX_PARAMETERS + 1;
@@ -9,119 +10,131 @@ const MANY_BYTES: usize = 3 * MANY;
 // The bytes of as many as it may have.
 const MOST_BYTES: usize = 3 * MAX_PARAMETERS;
 
-pub(crate) fn all() {
-    read();
-    read_refused();
-    written();
-    write_refused();
+pub(crate) fn all(rt: &impl Print) -> io::Result<()> {
+    read(rt)?;
+    read_refused(rt)?;
+    written(rt)?;
+    write_refused(rt)
 }
 
 // Identifier 1 with value aa, ours with value bb cc, identifier 5 with value dd, which is not in the shortest form.
-fn read() {
-    carried(b"parameters in no bytes: ", b"");
+fn read(rt: &impl Print) -> io::Result<()> {
+    carried(rt, "parameters in no bytes: ", b"")?;
     carried(
-        b"parameters in 01 01 aa 11 02 bb cc 40 05 40 01 dd: ",
+        rt,
+        "parameters in 01 01 aa 11 02 bb cc 40 05 40 01 dd: ",
         b"\x01\x01\xaa\x11\x02\xbb\xcc\x40\x05\x40\x01\xdd",
-    );
-    carried(b"parameters in 01 01 aa: ", b"\x01\x01\xaa");
-    carried(b"parameters in 40 11 00: ", b"\x40\x11\0");
+    )?;
+    carried(rt, "parameters in 01 01 aa: ", b"\x01\x01\xaa")?;
+    carried(rt, "parameters in 40 11 00: ", b"\x40\x11\0")?;
     let mut longest = [0u8; MAX_SEQUENCE];
     longest[0] = 1;
     longest[1] = 0x80;
     longest[3] = 0x3f;
     longest[4] = 0xfb;
-    carried(b"parameters in 16384 bytes, one of them: ", &longest);
+    carried(rt, "parameters in 16384 bytes, one of them: ", &longest)?;
     let many = distinct();
-    carried(b"64 parameters: ", most(&many));
+    carried(rt, "64 parameters: ", most(&many))
 }
 
-fn read_refused() {
+fn read_refused(rt: &impl Print) -> io::Result<()> {
     let long = [0u8; MAX_SEQUENCE + 1];
-    carried(b"parameters in 16385 bytes: ", &long);
-    carried(b"parameters in 01 02 aa: ", b"\x01\x02\xaa");
+    carried(rt, "parameters in 16385 bytes: ", &long)?;
+    carried(rt, "parameters in 01 02 aa: ", b"\x01\x02\xaa")?;
     carried(
-        b"parameters in 01 00 01 00 02, a repeat and a cut tail: ",
+        rt,
+        "parameters in 01 00 01 00 02, a repeat and a cut tail: ",
         b"\x01\0\x01\0\x02",
-    );
-    carried(b"parameters in 05 00 40 05 00: ", b"\x05\0\x40\x05\0");
+    )?;
+    carried(rt, "parameters in 05 00 40 05 00: ", b"\x05\0\x40\x05\0")?;
     let mut many = distinct();
-    carried(b"65 parameters: ", &many);
+    carried(rt, "65 parameters: ", &many)?;
     many[1] = many[MANY_BYTES - 2];
-    carried(b"65 parameters, the first as the last: ", &many);
+    carried(rt, "65 parameters, the first as the last: ", &many)
 }
 
 // The buffer has bytes more than the sequence. They keep their values.
-fn written() {
+fn written(rt: &impl Print) -> io::Result<()> {
     let mut buffer = [0xeeu8; 12];
     carrying(
-        b"01 01 aa 11 02 bb cc 40 05 40 01 dd with value ff: ",
+        rt,
+        "01 01 aa 11 02 bb cc 40 05 40 01 dd with value ff: ",
         b"\x01\x01\xaa\x11\x02\xbb\xcc\x40\x05\x40\x01\xdd",
         b"\xff",
         &mut buffer,
-    );
+    )?;
     let mut short = [0xeeu8; 6];
     carrying(
-        b"40 05 00 with value ff: ",
+        rt,
+        "40 05 00 with value ff: ",
         b"\x40\x05\0",
         b"\xff",
         &mut short,
-    );
+    )?;
     let mut shorter = [0xeeu8; 3];
     carrying(
-        b"no parameters with an empty value: ",
+        rt,
+        "no parameters with an empty value: ",
         b"",
         b"",
         &mut shorter,
-    );
+    )
 }
 
-fn write_refused() {
+fn write_refused(rt: &impl Print) -> io::Result<()> {
     let mut buffer = [0xeeu8; 4];
     let long = [0u8; MAX_SEQUENCE];
     carrying(
-        b"no parameters with a value of 16384 bytes: ",
+        rt,
+        "no parameters with a value of 16384 bytes: ",
         b"",
         &long,
         &mut buffer,
-    );
+    )?;
     carrying(
-        b"01 02 aa with value ff: ",
+        rt,
+        "01 02 aa with value ff: ",
         b"\x01\x02\xaa",
         b"\xff",
         &mut buffer,
-    );
+    )?;
     carrying(
-        b"05 00 05 00 with value ff: ",
+        rt,
+        "05 00 05 00 with value ff: ",
         b"\x05\0\x05\0",
         b"\xff",
         &mut buffer,
-    );
+    )?;
     carrying(
-        b"40 05 00 with value ff for a buffer of 4: ",
+        rt,
+        "40 05 00 with value ff for a buffer of 4: ",
         b"\x40\x05\0",
         b"\xff",
         &mut buffer,
-    );
+    )?;
     let many = distinct();
     carrying(
-        b"65 parameters with value ff: ",
+        rt,
+        "65 parameters with value ff: ",
         &many,
         b"\xff",
         &mut buffer,
-    );
+    )?;
     carrying(
-        b"64 parameters, none ours, with value ff for a buffer of 4: ",
+        rt,
+        "64 parameters, none ours, with value ff for a buffer of 4: ",
         most(&many),
         b"\xff",
         &mut buffer,
-    );
+    )?;
     let mut room = [0xeeu8; MANY_BYTES];
     carrying(
-        b"64 parameters, none ours, with value ff: ",
+        rt,
+        "64 parameters, none ours, with value ff: ",
         most(&many),
         b"\xff",
         &mut room,
-    );
+    )
 }
 
 // Parameters with the identifiers from 64 on and no value, one more than a sequence may have.

@@ -2,11 +2,12 @@
 use crate::packet_cases::padded_case;
 use crate::show::header_of;
 use negotiation::write_version_negotiation;
+use std::io;
 
 // The connection IDs are swapped: the packet is for the client that sent the datagram.
-pub(crate) fn all() {
+pub(crate) fn all(rt: &impl Print) -> io::Result<()> {
     let received = padded_case();
     let mut packet = [0u8; 22];
     write_version_negotiation(&received, &[14, 13, 10], &[], 64, &mut packet);
-    header_of(&packet, 0);
+    header_of(rt, &packet, 0)
 }

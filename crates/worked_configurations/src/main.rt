@@ -1,0 +1,11 @@
+// The test of a server's configuration, run through the public function: one line for each case.
+#![tactic(auto)]
+
+mod configuration_cases; // a server's lists, tested
+mod say; // words, numbers and versions, printed
+
+use std::io;
+
+fn main(rt: HostRuntime) -> io::Result<()> {
+    configuration_cases::all(&rt)
+}
