@@ -3,13 +3,14 @@
 -- writer of information writes.
 use Prim.Native.Nat.{ℕ, ◌+◌, ◌*◌, ◌^◌, ◌<◌, ◌≤◌}
 use mathlib.Core.Bool.{Bool, true, false, not}
-use mathlib.Core.List.{List, []}
+use mathlib.Core.List.{List, [], ◌∷◌}
 use mathlib.Core.Path.{◌≡◌, refl, ap, subst, ◌∙◌}
 use native.Mathlib.Omega.{arith}
 use lib.Dec.{ltb}
 use lib.ListN.{length}
 use borrow.Author.Tests.{ltb-false, le-ltb, ne_eqb, not-true, not-false}
-use Rattle.refusals.specs.Reply.{Reply.answered}
+use Rattle.refusals.specs.Reply.{Reply.answered, refuse}
+use Rattle.refusals.specs.Rule.{Rule.◌when◌, lowest}
 use Rattle.refusals.specs.declared.Call.TheVariants.{Writing}
 use Rattle.refusals.proofs.Rules.{both_true, answer-given}
 use Rattle.versions.specs.Reserved.{without_reserved}
@@ -104,6 +105,12 @@ module _ (a : Attempt) (given : List (List ℕ)) (room : ℕ) (bytes : List ℕ)
   pub client-own : without_reserved (own_as_sent a given) ≡ own_as_answered a
   client-own = sent-without (own_as_answered a) given its.rule ∙ own-without a r
 
+-- A last rule that does not apply changes nothing
+last-passes : {B : Type 0} (refusal : ℕ → B) (n m : ℕ) (b : Bool) (other : B) →
+    lowest refusal ((n when b) ∷ (m when false) ∷ []) other ≡ lowest refusal ((n when b) ∷ []) other
+last-passes refusal n m true other = refl
+last-passes refusal n m false other = refl
+
 -- With nothing given the call answers what the writer of information answers for the attempted version and the own list
 pub client-with-nothing : (a : Attempt) (room : ℕ) → Reachable a →
     client_information_of a [] room ≡ information_to_write Client a.attempted (own_as_answered a) room
@@ -121,3 +128,4 @@ client-with-nothing a room r =
       kept.none-zero,
       kept.among,
     )
+    (last-passes (refuse Writing) 37 47 (ltb room (information_length (own_as_answered a))) _)
