@@ -16,7 +16,7 @@ pub const MAX_ID: usize = 20;
 pub const NOT_A_RECORD: Refusal = Refusal(255);
 
 // How an attempt stands.
-#[derive(Drop)]
+#[derive(Clone, Copy)]
 pub enum End {
     Open,
     // Completed with the version in use.
@@ -27,7 +27,7 @@ pub enum End {
 
 // The record of one attempt (document 01's term). It is what a start handed back, changed since by
 // events alone. Places past a count are 0.
-#[derive(Drop)]
+#[derive(Clone, Copy)]
 pub struct Attempt {
     // The table of versions, best first.
     pub table: [u32; MAX_TABLE],

@@ -15,7 +15,6 @@ mod connection; // whether the packet is of the attempt's connection
 use crate::connection::is_other_connection;
 use attempt::{Attempt, End, NOT_A_RECORD};
 use choosing::prefer_in_bytes;
-use client_verdict::again::record_again;
 use client_verdict::{Verdict, could_be_attempt};
 use invariants::Header;
 use invariants::reader::read_header;
@@ -27,7 +26,7 @@ use refusals::Refusal;
 pub fn judge_datagram(attempt: Attempt, datagram: &[u8]) -> Verdict
     ensures { applied attempt result ≡ step_of_any attempt Datagram datagram.now }
 {
-    if !could_be_attempt(record_again(&attempt)) {
+    if !could_be_attempt(attempt) {
         return Verdict::Unchanged(NOT_A_RECORD);
     }
     on_datagram(attempt, datagram)
@@ -69,13 +68,13 @@ fn on_negotiation(
     requires { (counts_fit attempt ≡ true) × Parts datagram.now destination source list }
     ensures { applied attempt result ≡ on_datagram attempt datagram.now }
 {
-    let start = list.start;
-    if is_late(record_again(&attempt)) {
+    if is_late(attempt) {
         return Verdict::Unchanged(Refusal::TOO_LATE);
     }
-    if is_other_connection(record_again(&attempt), datagram, destination, source, list) {
+    if is_other_connection(attempt, datagram, destination, source, list) {
         return Verdict::Unchanged(Refusal::OTHER_CONNECTION);
     }
+    let start = list.start;
     if contains_in_bytes(&datagram[start..], attempt.original) {
         return Verdict::Unchanged(Refusal::LISTS_ORIGINAL);
     }

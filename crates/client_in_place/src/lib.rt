@@ -7,7 +7,7 @@ ghost use Rattle.attempt.specs.Journaled.{journaled_step};
 ghost use Rattle.attempt.specs.Step.{answer_reply};
 
 use attempt::{Answer, Attempt, Event};
-use client_step::{record_again, step};
+use client_step::step;
 
 // One event on a lent record, which a start handed back and events alone changed since. `bytes` is the datagram, or
 // the Version Information that is given; else it is not read. The answer, its refusals and what each of them leaves
@@ -18,7 +18,7 @@ pub fn handle(attempt: &mut Attempt, event: Event, bytes: &[u8]) -> Answer
         ((attempt.new ≡ (journaled_step attempt.old event bytes.now).attempt) ×
         Reachable attempt.new) }
 {
-    let stepped = step(record_again(attempt), event, bytes);
+    let stepped = step(*attempt, event, bytes);
     *attempt = stepped.attempt;
     stepped.answer
 }

@@ -31,11 +31,10 @@ pub fn write_client_information(
     ensures answer { written_reply result ≡ counted (client_information_of attempt reserved.now (length buffer.old)) }
     ensures left { buffer.new ≡ leaves (client_information_of attempt reserved.now (length buffer.old)) buffer.old }
 {
-    let chosen = attempt.attempted;
     let own = own_list(attempt);
     let versions = own.versions;
     let count = own.count;
-    write_as_sent(chosen, &versions[..count], reserved, buffer)
+    write_as_sent(attempt.attempted, &versions[..count], reserved, buffer)
 }
 
 // The same of a Chosen Version and any own list.
@@ -112,7 +111,7 @@ fn put_as_sent(own: &[u32], reserved: &[[u32; 2]], buffer: &mut [u8])
     while place < entries {
         let at = place * VERSION_BYTES;
         let given = given_for(reserved, place);
-        let version = sent_at(&given, own, next);
+        let version = sent_at(given, own, next);
         put_list(&[version], &mut buffer[at..]);
         next = own_after(given, next);
         place += 1;
@@ -135,10 +134,10 @@ fn given_for(reserved: &[[u32; 2]], place: usize) -> Entry
 }
 
 // What stands at a place: the number that is given for it, else the own version at the place that is next.
-fn sent_at(given: &Entry, own: &[u32], next: usize) -> u32
-    ensures { result ≡ sent_at (entry_reply given.now) (drop next own.now) }
+fn sent_at(given: Entry, own: &[u32], next: usize) -> u32
+    ensures { result ≡ sent_at (entry_reply given) (drop next own.now) }
 {
-    match *given {
+    match given {
         Entry::Version(number) => number,
         Entry::Nothing => {
             if next < own.len() {

@@ -12,7 +12,6 @@ mod reading; // what the outcome tells, judged with no look at the table
 use crate::judging::judge_read;
 use crate::reading::read_outcome;
 use attempt::{Attempt, End, NOT_A_RECORD};
-use client_verdict::again::{end_again, record_again};
 use client_verdict::{Verdict, could_be_attempt};
 use information::Presence;
 use lists::Span;
@@ -42,7 +41,7 @@ pub fn judge_outcome(
 ) -> Verdict
     ensures { applied attempt result ≡ step_of_any attempt (Outcome in_use presence) information.now }
 {
-    if !could_be_attempt(record_again(&attempt)) {
+    if !could_be_attempt(attempt) {
         return Verdict::Unchanged(NOT_A_RECORD);
     }
     on_outcome(attempt, in_use, presence, information)
@@ -53,9 +52,9 @@ fn on_outcome(attempt: Attempt, in_use: u32, presence: Presence, information: &[
     requires { counts_fit attempt ≡ true }
     ensures { applied attempt result ≡ on_outcome attempt in_use presence information.now }
 {
-    let end = end_again(&attempt.end);
+    let end = attempt.end;
     match end {
-        End::Open => match read_outcome(record_again(&attempt), in_use, presence, information) {
+        End::Open => match read_outcome(attempt, in_use, presence, information) {
             Judgement::Final(verdict) => verdict,
             Judgement::ByTable {
                 chosen,

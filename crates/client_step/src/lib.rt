@@ -12,7 +12,6 @@ ghost use Rattle.client_verdict.specs.Verdicts.{applied};
 use attempt::{Attempt, End, Event, NOT_A_RECORD, Stepped};
 use client_datagram::judge_datagram;
 use client_outcome::judge_outcome;
-pub use client_verdict::again::record_again;
 use client_verdict::record::apply;
 use client_verdict::{Verdict, could_be_attempt};
 use refusals::Refusal;
@@ -37,7 +36,7 @@ pub fn step(attempt: Attempt, event: Event, bytes: &[u8]) -> Stepped
 pub fn step_any(attempt: Attempt, event: Event, bytes: &[u8]) -> Stepped
     ensures { shown result ≡ journaled_step_of_any attempt event bytes.now }
 {
-    let verdict = judge(record_again(&attempt), event, bytes);
+    let verdict = judge(attempt, event, bytes);
     apply(attempt, verdict)
 }
 
@@ -60,7 +59,7 @@ pub fn judge(attempt: Attempt, event: Event, bytes: &[u8]) -> Verdict
 fn judge_processed(attempt: Attempt) -> Verdict
     ensures { applied attempt result ≡ step_of_any attempt PacketProcessed [] }
 {
-    if !could_be_attempt(record_again(&attempt)) {
+    if !could_be_attempt(attempt) {
         return Verdict::Unchanged(NOT_A_RECORD);
     }
     let end = attempt.end;

@@ -5,7 +5,6 @@
 ghost use Rattle.std.specs.Prelude.{◌≡◌};
 ghost use Rattle.attempt.specs.Step.{could_be_attempt};
 
-pub mod again; // the same value once more
 pub mod record; // a verdict, applied
 
 use attempt::{Attempt, MAX_ID};
@@ -15,7 +14,7 @@ use versions::table::holds;
 
 // What an event does to an attempt, its journal left out: there the answer is noted, which follows from the verdict
 // (`record::journal_after`).
-#[derive(Drop)]
+#[derive(Clone, Copy)]
 pub enum Verdict {
     // A refusal that leaves the attempt unchanged.
     Unchanged(Refusal),

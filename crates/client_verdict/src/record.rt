@@ -7,7 +7,6 @@ ghost use Rattle.attempt.specs.Step.{shown, answer_reply};
 ghost use Rattle.client_verdict.specs.Verdicts.{applied, journal_after, attempted_after, acted_after, heard_after, end_after, reply_of};
 
 use crate::Verdict;
-use crate::again::{end_again, journal_again, verdict_again};
 use attempt::{Answer, Attempt, End, NOT_A_RECORD, Stepped};
 use journal::{Journal, note};
 
@@ -16,12 +15,12 @@ use journal::{Journal, note};
 pub fn apply(attempt: Attempt, verdict: Verdict) -> Stepped
     ensures { shown result ≡ journaled_any (applied attempt verdict) }
 {
-    let before = end_again(&attempt.end);
-    let attempted = attempted_after(attempt.attempted, verdict_again(&verdict));
-    let acted = acted_after(attempt.acted, verdict_again(&verdict));
-    let heard = heard_after(attempt.heard, verdict_again(&verdict));
-    let end = end_after(before, verdict_again(&verdict));
-    let journal = journal_after(journal_again(&attempt.journal), verdict_again(&verdict));
+    let before = attempt.end;
+    let attempted = attempted_after(attempt.attempted, verdict);
+    let acted = acted_after(attempt.acted, verdict);
+    let heard = heard_after(attempt.heard, verdict);
+    let end = end_after(before, verdict);
+    let journal = journal_after(attempt.journal, verdict);
     let answer = answer_of(verdict);
     // From here on no test.
     let next = put(attempt, attempted, acted, heard, end, journal);

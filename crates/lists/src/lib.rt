@@ -14,14 +14,14 @@ pub const MAX_LIST: usize = 16382;
 const BLOCK: usize = 64;
 
 // The version at a place of a list on the wire, or nothing where the list ends before it.
-#[derive(Drop)]
+#[derive(Clone, Copy)]
 pub enum Entry {
     Version(u32),
     Nothing,
 }
 
 // Where a part of a byte string lies: from `start` up to, and not with, `end`.
-#[derive(Drop)]
+#[derive(Clone, Copy)]
 pub struct Span {
     pub start: usize,
     pub end: usize,

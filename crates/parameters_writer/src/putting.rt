@@ -42,9 +42,8 @@ fn put_renewed(old: &[u8], value: &[u8], buffer: &mut [u8]) -> usize
         let Parameter::Read { id, value: part } = one else {
             return count;
         };
-        let end = part.end;
         count += put_next(old, id, part, value, &mut buffer[count..]);
-        at = end;
+        at = part.end;
     }
     count
 }

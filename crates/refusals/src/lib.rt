@@ -7,7 +7,7 @@ ghost use Rattle.refusals.specs.Table.{numbers, table};
 ghost use Rattle.refusals.specs.Close.{close_of, code_in};
 
 // A refusal is its number in document 01's table.
-#[derive(Drop)]
+#[derive(Clone, Copy)]
 pub struct Refusal(pub u8);
 
 impl Refusal {

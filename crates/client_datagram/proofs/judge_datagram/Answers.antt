@@ -8,11 +8,11 @@ use Rattle.client_datagram.proofs.judge_datagram.Goals.{Else-not-could_be_attemp
 use Rattle.client_datagram.proofs.judge_datagram.Goals as goal
 
 passed : (c : Else-not-could_be_attempt) → could_be_attempt c.args.attempt ≡ true
-passed c = sym (rw c.record_again.ensures at c.could_be_attempt.ensures) ∙ c.if-not-could_be_attempt.false
+passed c = sym c.could_be_attempt.ensures ∙ c.if-not-could_be_attempt.false
 
 pub returns-then-not-could_be_attempt : goal.returns-then-not-could_be_attempt
 returns-then-not-could_be_attempt c = any-refused c.args.attempt _ _
-    (sym (rw c.record_again.ensures at c.could_be_attempt.ensures) ∙ c.if-not-could_be_attempt.true)
+    (sym c.could_be_attempt.ensures ∙ c.if-not-could_be_attempt.true)
 
 pub on_datagram-requires : goal.on_datagram-requires
 on_datagram-requires c = counts-could-be c.args.attempt (passed (goal.at.on_datagram-requires c).Else-not-could_be_attempt)

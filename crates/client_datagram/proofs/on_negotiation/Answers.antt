@@ -21,11 +21,11 @@ list-is c = list-part c.requires.1
 
 -- What each call and test told
 intime : (c : Else-is_late) → is_late c.args.attempt ≡ false
-intime c = sym (rw c.record_again.ensures at c.is_late.ensures) ∙ c.if-is_late.false
+intime c = sym c.is_late.ensures ∙ c.if-is_late.false
 
 ours : (c : Else-is_other_connection) →
     other_connection (destination_of c.args.attempt) (source_of c.args.attempt) c.args.datagram.now ≡ false
-ours c = sym (rw c.record_again-2.ensures at c.is_other_connection.ensures) ∙ c.if-is_other_connection.false
+ours c = sym c.is_other_connection.ensures ∙ c.if-is_other_connection.false
 
 listed-original : (c : After-contains_in_bytes) →
     c.contains_in_bytes.result ≡ elem c.args.attempt.original (listed c.args.datagram.now)
@@ -41,11 +41,11 @@ acted-on c =
     c.act_on.ensures ∙ ap (λ (x : List ℕ). act_on c.args.attempt (preferred (table_of c.args.attempt) (entries x))) (list-is (goal.at.After-act_on c).Start)
 
 pub returns-then-is_late : goal.returns-then-is_late
-returns-then-is_late c = too-late c.args.attempt c.args.datagram.now c.requires.1.readable (sym (rw c.record_again.ensures at c.is_late.ensures) ∙ c.if-is_late.true)
+returns-then-is_late c = too-late c.args.attempt c.args.datagram.now c.requires.1.readable (sym c.is_late.ensures ∙ c.if-is_late.true)
 
 pub returns-then-is_other_connection : goal.returns-then-is_other_connection
 returns-then-is_other_connection c = not_ours c.args.attempt c.args.datagram.now c.requires.1.readable (intime (goal.at.returns-then-is_other_connection c).Else-is_late)
-    (sym (rw c.record_again-2.ensures at c.is_other_connection.ensures) ∙ c.if-is_other_connection.true)
+    (sym c.is_other_connection.ensures ∙ c.if-is_other_connection.true)
 
 pub returns-then-contains_in_bytes : goal.returns-then-contains_in_bytes
 returns-then-contains_in_bytes c = lists-original c.args.attempt c.args.datagram.now c.requires.1.readable (intime (goal.at.returns-then-contains_in_bytes c).Else-is_late) (ours (goal.at.returns-then-contains_in_bytes c).Else-is_other_connection)

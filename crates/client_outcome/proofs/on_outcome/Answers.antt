@@ -16,20 +16,20 @@ judge_read-requires c = (
 pub returns-in-Final : goal.returns-in-Final
 returns-in-Final c = let g = c.args in
     sym (ap (λ (j : Judgement). judgement_after g.attempt g.in_use g.information.now j) c.in-Final.is) ∙
-    (rw c.record_again.ensures at c.read_outcome.ensures.judged) ∙
-    outcome-open g.attempt g.in_use g.presence g.information.now (rw c.end_again-end.ensures at c.in-Open.is)
+    c.read_outcome.ensures.judged ∙
+    outcome-open g.attempt g.in_use g.presence g.information.now c.in-Open.is
 
 pub returns-in-ByTable : goal.returns-in-ByTable
 returns-in-ByTable c = let g = c.args in
     c.judge_read.ensures ∙
     sym (ap (λ (j : Judgement). judgement_after g.attempt g.in_use g.information.now j) c.in-ByTable.is) ∙
-    (rw c.record_again.ensures at c.read_outcome.ensures.judged) ∙
-    outcome-open g.attempt g.in_use g.presence g.information.now (rw c.end_again-end.ensures at c.in-Open.is)
+    c.read_outcome.ensures.judged ∙
+    outcome-open g.attempt g.in_use g.presence g.information.now c.in-Open.is
 
 pub returns-in-Completed : goal.returns-in-Completed
 returns-in-Completed c = let g = c.args in
-    outcome-ended g.attempt g.in_use g.presence g.information.now (ap is_open (rw c.end_again-end.ensures at c.in-Completed.is))
+    outcome-ended g.attempt g.in_use g.presence g.information.now (ap is_open c.in-Completed.is)
 
 pub returns-in-Closed : goal.returns-in-Closed
 returns-in-Closed c = let g = c.args in
-    outcome-ended g.attempt g.in_use g.presence g.information.now (ap is_open (rw c.end_again-end.ensures at c.in-Closed.is))
+    outcome-ended g.attempt g.in_use g.presence g.information.now (ap is_open c.in-Closed.is)

@@ -9,11 +9,11 @@ use Rattle.client_step.proofs.judge_processed.Goals.{Else-not-could_be_attempt}
 use Rattle.client_step.proofs.judge_processed.Goals as goal
 
 passed : (c : Else-not-could_be_attempt) → could_be_attempt c.args.attempt ≡ true
-passed c = sym (rw c.record_again.ensures at c.could_be_attempt.ensures) ∙ c.if-not-could_be_attempt.false
+passed c = sym c.could_be_attempt.ensures ∙ c.if-not-could_be_attempt.false
 
 pub returns-then-not-could_be_attempt : goal.returns-then-not-could_be_attempt
 returns-then-not-could_be_attempt c = any-refused c.args.attempt _ _
-    (sym (rw c.record_again.ensures at c.could_be_attempt.ensures) ∙ c.if-not-could_be_attempt.true)
+    (sym c.could_be_attempt.ensures ∙ c.if-not-could_be_attempt.true)
 
 pub returns-in-Open : goal.returns-in-Open
 returns-in-Open c = processed-open _ (passed (goal.at.returns-in-Open c).Else-not-could_be_attempt) (ap is_open c.in-Open.is)

@@ -6,4 +6,4 @@ use Rattle.client_step.proofs.step_any.Goals as goal
 
 pub returns : goal.returns
 returns c = let g = c.args in
-    c.apply.ensures ∙ ap journaled_any (rw c.record_again.ensures at c.judge-verdict.ensures) ∙ any-journaled g.attempt g.event g.bytes.now
+    c.apply.ensures ∙ ap journaled_any c.judge-verdict.ensures ∙ any-journaled g.attempt g.event g.bytes.now
