@@ -1,7 +1,7 @@
 -- Reserved numbers on the wire change nothing at the other end (document 02, C-18; RFC 9000 section 6.3): a packet with them
 -- gives every client's event the answer and the record that one without them gives, and the client's information with them
 -- gives every server the choice that it makes without.
-use Prim.Native.Nat.{ℕ, ◌+◌, ◌^◌, ◌<◌}
+use Prim.Native.Nat.{ℕ, ◌^◌, ◌<◌}
 use mathlib.Core.Bool.{true, false, not, ◌||◌}
 use mathlib.Core.List.{List, [], ◌∷◌, ◌++◌, append-nil}
 use mathlib.Core.Path.{◌≡◌, sym, ap, ◌∙◌}
