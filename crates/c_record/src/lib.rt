@@ -15,7 +15,7 @@ pub const NOT_VALID: u32 = 255;
 
 // The record of an attempt. Fixed-width fields and no padding.
 #[repr(C)]
-#[derive(Drop)]
+#[derive(Clone, Copy)]
 pub struct Record {
     // Bit j of row i: entry j may be answered when entry i is attempted.
     pub rows: [u64; MAX_TABLE],
