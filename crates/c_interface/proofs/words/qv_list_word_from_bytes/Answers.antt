@@ -1,0 +1,15 @@
+-- `qv_list_word_from_bytes` meets its contract: the refusal, or 0 and the word.
+use mathlib.Core.Path.{refl}
+use Rattle.c_interface.proofs.words.qv_list_word_from_bytes.Goals as goal
+
+pub returns-in-Refused : goal.returns-in-Refused
+returns-in-Refused c = rw (← c.list_word_from_bytes.ensures, c.in-Refused.is) record {
+  answer = refl;
+  left = refl;
+}
+
+pub returns-in-Word : goal.returns-in-Word
+returns-in-Word c = rw (← c.list_word_from_bytes.ensures, c.in-Word.is) record {
+  answer = refl;
+  left = refl;
+}
