@@ -129,10 +129,10 @@ negotiated r o n bits room bytes h =
 pub max_packet-is : max_packet ≡ 773 + 16
 max_packet-is = refl
 
-get_d-below : (bound i : ℕ) (s : List ℕ) → 0 < bound → all_below bound s ≡ true → get_or s i 0 < bound
-get_d-below bound i [] h e = h
-get_d-below bound zero (x ∷ xs) h e = (all_below-head bound x xs e).0
-get_d-below bound (suc i) (x ∷ xs) h e = get_d-below bound i xs h (all_below-head bound x xs e).1
+get_or-below : (bound i : ℕ) (s : List ℕ) → 0 < bound → all_below bound s ≡ true → get_or s i 0 < bound
+get_or-below bound i [] h e = h
+get_or-below bound zero (x ∷ xs) h e = (all_below-head bound x xs e).0
+get_or-below bound (suc i) (x ∷ xs) h e = get_or-below bound i xs h (all_below-head bound x xs e).1
 
 -- Reserved numbers that keep their rule are few
 few-numbers : (n : List ℕ) → reserved_keep_rule n ≡ true → length n ≤ max_reserved
@@ -142,8 +142,8 @@ few-numbers n h = leb-true _ _ (both_true (leb (length n) max_reserved) _ h).0
 packet-at-most : (r o n : List ℕ) (bits room : ℕ) → Judged r o n bits room → all_below 256 r ≡ true
     → length (packet_for r (list_sent o n) bits) ≤ max_packet
 packet-at-most r o n bits room j e =
-    let d = get_d-below 256 5 r (omega arith) e in
-    let s = get_d-below 256 (6 + destination_length r) r (omega arith) e in
+    let d = get_or-below 256 5 r (omega arith) e in
+    let s = get_or-below 256 (6 + destination_length r) r (omega arith) e in
     let t = table-counts o j.offer.table in
     let f = few-numbers n j.offer.numbers in
     let l = length-append o n in

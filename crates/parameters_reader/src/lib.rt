@@ -20,6 +20,7 @@ use refusals::Refusal;
 // Where Version Information lies in a sequence, or that it is missing; its value is not judged. Refusals, in order: 80
 // (over MAX_SEQUENCE bytes), 81 (a field runs past the end), 82 (an identifier occurs twice), 85 (over MAX_PARAMETERS
 // parameters). It changes nothing.
+#[tactic(auto, using(crate::proofs::Judging::too_long))]
 pub fn read_parameters(sequence: &[u8]) -> Carried
     ensures { carried_reply result ≡ read_parameters sequence.now }
 {

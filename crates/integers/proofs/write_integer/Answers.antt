@@ -34,13 +34,12 @@ unfolding integer_to_write
 returns-then-buffer-width c = rw (le-ltb _ _ (small (goal.at.returns-then-buffer-width c).After-width_of-width), ← width (goal.at.returns-then-buffer-width c).After-width_of-width, lt-ltb _ _ c.if-buffer-width.true) (record { answer = refl; left = refl })
 
 pub put_in_width-requires : goal.put_in_width-requires
+unfolding held_below width_of
 put_in_width-requires c = let value = c.args.value in
-    let form = c.form_of-form.ensures in (
-      subst (λ (x : ℕ). x < 4) (sym form) (shortest-lt value),
-      c.width_of-width.ensures,
-      subst (λ (x : ℕ). value < held_below x) (sym form) (shortest-holds value (small (goal.at.put_in_width-requires c).After-width_of-width)),
-      search rules,
-    )
+    let form = c.form_of-form in
+    let small_form : form.result < 4 = subst (λ (x : ℕ). x < 4) (sym form.ensures) (shortest-lt value) in
+    let held : value < held_below form.result = subst (λ (x : ℕ). value < held_below x) (sym form.ensures) (shortest-holds value (small (goal.at.put_in_width-requires c).After-width_of-width)) in
+    (omega (arith, small_form), search rules, omega (arith, held), search rules)
 
 pub returns : goal.returns
 unfolding integer_to_write shortest_bytes

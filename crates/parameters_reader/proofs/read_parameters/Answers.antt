@@ -1,6 +1,6 @@
 -- `read_parameters`: the tests are the rules in the order of their numbers.
-use Prim.Native.Nat.{ℕ, ◌<◌, ◌≤◌}
-use mathlib.Core.Path.{◌≡◌, sym, ap, ◌∙◌, subst}
+use Prim.Native.Nat.{ℕ, ◌≤◌}
+use mathlib.Core.Path.{◌≡◌, sym, ap, ◌∙◌}
 use native.Mathlib.Omega.{arith}
 use lib.ListN.{length, take}
 use lib.Seq.{length-take-le}
@@ -9,15 +9,12 @@ use Rattle.parameters.specs.Limits.{max_parameters, max_sequence}
 use Rattle.parameters.specs.Reading.{fields_in}
 use Rattle.parameters.specs.Sequence.{field_at, fields_of, ids_of, repeats}
 use Rattle.parameters_reader.specs.Walking.{carried_there, walked_as}
-use Rattle.parameters_reader.proofs.Judging.{Told, all_read, past_the_end, repeated, told-past, told-through, too_long}
+use Rattle.parameters_reader.proofs.Judging.{Told, all_read, past_the_end, repeated, told-past, told-through}
 use Rattle.parameters_reader.proofs.read_parameters.Goals.{After-few_repeat, After-walk, In-Through}
 use Rattle.parameters_reader.proofs.read_parameters.Goals as goal
 
-pub returns-then-sequence-gt-MAX_SEQUENCE : goal.returns-then-sequence-gt-MAX_SEQUENCE
-returns-then-sequence-gt-MAX_SEQUENCE c = too_long _ c.if-sequence-gt-MAX_SEQUENCE.true
-
 short : (c : After-walk) → length c.args.sequence.now ≤ max_sequence
-short c = c.if-sequence-gt-MAX_SEQUENCE.false
+short c = omega arith
 
 -- What the walk told
 through-it : (c : In-Through) →
@@ -32,19 +29,18 @@ refusal_of_many-requires c = let told = through-it (goal.at.refusal_of_many-requ
     record {
       short = short (goal.at.refusal_of_many-requires c).After-walk;
       read = told.read;
-      many = subst (λ (n : ℕ). max_parameters < n) told.counts c.if-count-gt-MAX_PARAMETERS.true;
+      many = omega (arith, told.counts);
     }
 
 pub slice_bounds-few_repeat-end : goal.slice_bounds-few_repeat-end
-slice_bounds-few_repeat-end c = let few = c.if-count-gt-MAX_PARAMETERS.false in
-    let call = c.walk in
-    sym (length-take-le _ call.new.ids (omega (arith, few, call.auto.ids)))
+slice_bounds-few_repeat-end c = let call = c.walk in
+    sym (length-take-le _ call.new.ids (omega (arith, call.auto.ids)))
 
 -- Whether an identifier occurs twice, where there are few
 few : (c : After-few_repeat) → length (fields_in (fields_of c.args.sequence.now)) ≤ max_parameters
 few c =
     let told = through-it (goal.at.After-few_repeat c).In-Through in
-    subst (λ (n : ℕ). n ≤ max_parameters) told.counts c.if-count-gt-MAX_PARAMETERS.false
+    omega (arith, told.counts)
 
 twice : (c : After-few_repeat)
     → repeats (ids_of (fields_in (fields_of c.args.sequence.now))) ≡ c.few_repeat.result

@@ -28,27 +28,28 @@ size_of-size-requires c = record {
 
 -- What the tests say of the new sequence
 short : (c : Else-size-gt-MAX_SEQUENCE) → let args = c.args in length (new_sequence args.old.now args.value.now) ≤ max_sequence
-short c = subst (λ (n : ℕ). n ≤ max_sequence) c.size_of-size.ensures.bytes c.if-size-gt-MAX_SEQUENCE.false
+short c = omega arith
 
 fits : (c : Else-buffer-size) → let args = c.args in
     length (new_sequence args.old.now args.value.now) ≤ length args.buffer.now
-fits c = subst (λ (n : ℕ). n ≤ length c.args.buffer.now) c.size_of-size.ensures.bytes c.if-buffer-size.false
+fits c = omega arith
 
 few : (c : Else-size-gt-MAX_PARAMETERS) → let args = c.args in
     length (carrying args.value.now (contents_of args.old.now)) ≤ max_parameters
-few c = subst (λ (n : ℕ). n ≤ max_parameters) c.size_of-size.ensures.count c.if-size-gt-MAX_PARAMETERS.false
+few c = omega arith
 
 pub returns-then-size-gt-MAX_SEQUENCE : goal.returns-then-size-gt-MAX_SEQUENCE
 returns-then-size-gt-MAX_SEQUENCE c = let long = subst (λ (n : ℕ). max_sequence < n) c.size_of-size.ensures.bytes c.if-size-gt-MAX_SEQUENCE.true in
     rw (too_long c.args.old.now c.args.value.now c.requires.read _ long) (record { answer = refl; left = refl })
 
 pub returns-then-buffer-size : goal.returns-then-buffer-size
-returns-then-buffer-size c = let past = subst (λ (n : ℕ). length c.args.buffer.now < n) c.size_of-size.ensures.bytes c.if-buffer-size.true in
+returns-then-buffer-size c = let past : length c.args.buffer.now < length (new_sequence c.args.old.now c.args.value.now) = omega arith in
     rw (no_room c.args.old.now c.args.value.now c.requires.read _ (short (goal.at.returns-then-buffer-size c).Else-size-gt-MAX_SEQUENCE) past) (record { answer = refl; left = refl })
 
 pub returns-then-size-gt-MAX_PARAMETERS : goal.returns-then-size-gt-MAX_PARAMETERS
-returns-then-size-gt-MAX_PARAMETERS c = let many = subst (λ (n : ℕ). max_parameters < n) c.size_of-size.ensures.count c.if-size-gt-MAX_PARAMETERS.true in
-    rw (too_many c.args.old.now c.args.value.now c.requires.read _ (short (goal.at.returns-then-size-gt-MAX_PARAMETERS c).Else-size-gt-MAX_SEQUENCE) (fits (goal.at.returns-then-size-gt-MAX_PARAMETERS c).Else-buffer-size) many) (record { answer = refl; left = refl })
+returns-then-size-gt-MAX_PARAMETERS c = let fits : length (new_sequence c.args.old.now c.args.value.now) ≤ length c.args.buffer.now = omega arith in
+    let many : max_parameters < length (carrying c.args.value.now (contents_of c.args.old.now)) = omega arith in
+    rw (too_many c.args.old.now c.args.value.now c.requires.read _ (short (goal.at.returns-then-size-gt-MAX_PARAMETERS c).Else-size-gt-MAX_SEQUENCE) fits many) (record { answer = refl; left = refl })
 
 pub put_sequence-requires : goal.put_sequence-requires
 put_sequence-requires c = record {

@@ -10,7 +10,7 @@ use Rattle.parameters.proofs.Bytes.{field-sized}
 use Rattle.parameters.proofs.Walk.{ended, field-inside, never-lost, told-field, told-lost}
 use Rattle.parameters_reader.specs.Sizes.{large}
 use Rattle.parameters_reader.proofs.Marks.{gather-large, gather-place, gather-small, gathering-starts}
-use Rattle.parameters_reader.proofs.identifiers.large_ids.Goals.{At-loop-at, In-Read}
+use Rattle.parameters_reader.proofs.identifiers.large_ids.Goals.{In-Read}
 use Rattle.parameters_reader.proofs.identifiers.large_ids.Goals as goal
 
 pub loop-at-init : goal.loop-at-init
@@ -33,6 +33,21 @@ returns-in_default c = let call = c.read_parameter-one in
     let lost = told-lost call.result s c.loop-at.at call.ensures _ c.in_default.is in
     absurd (never-lost s c.loop-at.at g.passed g.going c.requires.read _ c.loop-at-test.true lost)
 
+shorter : (c : In-Read)
+    → length c.args.sequence.now - (the_field c).value.end
+    < length c.args.sequence.now - c.loop-at.at
+shorter c =
+    let i = field-inside _ _ (the_field c) (field-read c) in
+    omega (arith, i.begins, i.in_order, i.ends)
+
+-- A small one is passed over
+pub loop-at-smaller : goal.loop-at-smaller
+loop-at-smaller c = shorter (goal.at.loop-at-smaller c).In-Read
+
+pub loop-at-preserved : goal.loop-at-preserved
+loop-at-preserved c = gather-small _ _ _ _ (the_field (goal.at.loop-at-preserved c).In-Read) c.loop-at.invariant c.loop-at-test.true (field-read (goal.at.loop-at-preserved c).In-Read)
+    (omega arith)
+
 -- A large one takes five bytes, so there is a place for it
 five : (c : In-Read) → large ≤ (the_field c).id → c.loop-at.at + 5 ≤ (the_field c).value.start
 unfolding held_below width_of
@@ -45,38 +60,24 @@ place c h =
     c.requires.short
 
 pub offset_bounds-numbers-count : goal.offset_bounds-numbers-count
-offset_bounds-numbers-count c = let p = place (goal.at.offset_bounds-numbers-count c).In-Read c.if-id-ge-SMALL.true in
+offset_bounds-numbers-count c = let p = place (goal.at.offset_bounds-numbers-count c).In-Read (omega arith) in
     let room = c.loop-at.invariant.room in
     omega (arith, p, room)
 
 pub bounds-numbers-count : goal.bounds-numbers-count
-bounds-numbers-count c = place (goal.at.bounds-numbers-count c).In-Read c.if-id-ge-SMALL.true
+bounds-numbers-count c = place (goal.at.bounds-numbers-count c).In-Read (omega arith)
 
 pub overflow_add-count : goal.overflow_add-count
-overflow_add-count c = let p = place (goal.at.overflow_add-count c).In-Read c.if-id-ge-SMALL.true in
+overflow_add-count c = let p = place (goal.at.overflow_add-count c).In-Read (omega arith) in
     let room = c.loop-at.invariant.room in
     omega (arith, p, room)
-
-shorter : (c : In-Read)
-    → length c.args.sequence.now - (the_field c).value.end
-    < length c.args.sequence.now - c.loop-at.at
-shorter c =
-    let i = field-inside _ _ (the_field c) (field-read c) in
-    omega (arith, i.begins, i.in_order, i.ends)
 
 pub loop-at-smaller-then-id-ge-SMALL : goal.loop-at-smaller-then-id-ge-SMALL
 loop-at-smaller-then-id-ge-SMALL c = shorter (goal.at.loop-at-smaller-then-id-ge-SMALL c).In-Read
 
 pub loop-at-preserved-then-id-ge-SMALL : goal.loop-at-preserved-then-id-ge-SMALL
-loop-at-preserved-then-id-ge-SMALL c = gather-large _ _ _ _ (the_field (goal.at.loop-at-preserved-then-id-ge-SMALL c).In-Read) c.loop-at.invariant c.loop-at-test.true (field-read (goal.at.loop-at-preserved-then-id-ge-SMALL c).In-Read) c.if-id-ge-SMALL.true
-    (five (goal.at.loop-at-preserved-then-id-ge-SMALL c).In-Read c.if-id-ge-SMALL.true) c.requires.short
-
-pub loop-at-smaller : goal.loop-at-smaller
-loop-at-smaller c = shorter (goal.at.loop-at-smaller c).In-Read
-
-pub loop-at-preserved : goal.loop-at-preserved
-loop-at-preserved c = gather-small _ _ _ _ (the_field (goal.at.loop-at-preserved c).In-Read) c.loop-at.invariant c.loop-at-test.true (field-read (goal.at.loop-at-preserved c).In-Read)
-    c.if-id-ge-SMALL.false
+loop-at-preserved-then-id-ge-SMALL c = gather-large _ _ _ _ (the_field (goal.at.loop-at-preserved-then-id-ge-SMALL c).In-Read) c.loop-at.invariant c.loop-at-test.true (field-read (goal.at.loop-at-preserved-then-id-ge-SMALL c).In-Read) (omega arith)
+    (five (goal.at.loop-at-preserved-then-id-ge-SMALL c).In-Read (omega arith)) c.requires.short
 
 pub returns : goal.returns
 returns c = let g = c.loop-at.invariant in
