@@ -40,6 +40,7 @@ pub enum Information {
 // Reads Version Information that came from a sender. Refusals, in order: 31 (under 4 bytes), 32 (not a multiple
 // of four), 33 (over MAX_INFORMATION bytes), 34 (the Chosen Version is 0), 35 (an Available Version is 0), 36
 // (from a client: the Chosen Version is not among the Available Versions). It changes nothing.
+#[tactic(auto, unfolding(crate::specs::Information::read_information))]
 pub fn read_information(sender: Sender, bytes: &[u8]) -> Information
     ensures { information_reply result ≡ read_information sender bytes.now }
 {
@@ -86,6 +87,7 @@ fn read_lacks_chosen(sender: Sender, chosen: u32, available: &[u8]) -> bool
 // MAX_AVAILABLE entries), 34 (the Chosen Version is 0), 35 (an Available Version is 0), 36 (from a client: the
 // Chosen Version is not among the Available Versions), 37 (the buffer is too short). A refusal leaves the buffer
 // as found; else its bytes past the count keep their values.
+#[tactic(auto, unfolding(crate::specs::Information::information_to_write))]
 pub fn write_information(
     sender: Sender,
     chosen: u32,

@@ -35,6 +35,7 @@ pub const MAX_BARRED: usize = 64;
 // with information missing, the version itself if accepted, else negotiate; with information given, the first accepted
 // version that is among the Available Versions and is the Chosen Version, or is paired from it and not barred; else
 // negotiate.
+#[tactic(auto, unfolding(crate::specs::FirstFlight::decide))]
 pub fn choose_after_first_flight(
     readable: &[u32],
     accepted: &[u32],
