@@ -27,14 +27,17 @@ loop-k-preserved c = let args = c.args in
     let inside : i < length list = rw (length-entries args.bytes.now) (omega arith) in
     let next : args.from + (c.loop-k.k + 1) ≡ i + 1 = omega arith in (
       omega arith,
-      (elim c.if-is_entry.branch [ then-is_entry w ↦ rw w.found-is
-          (so_far ∙
-          ap (λ (b : Bool). c.loop-k.found || b)
-          (elem-here args.version list i inside (eqb-true _ _ (sym told ∙ w.if-is_entry.true))) ∙
-          or-true c.loop-k.found) | else-is_entry w ↦ rw (w.found-is, next)
-          (so_far ∙
-          ap (λ (b : Bool). c.loop-k.found || b)
-          (elem_next args.version list i inside (eqb-false _ _ (sym told ∙ w.if-is_entry.false)))) ]),
+      (elim c.if-is_entry.branch [
+        | then-is_entry w ↦ rw w.found-is
+            (so_far ∙
+            ap (λ (b : Bool). c.loop-k.found || b)
+            (elem-here args.version list i inside (eqb-true _ _ (sym told ∙ w.if-is_entry.true))) ∙
+            or-true c.loop-k.found)
+        | else-is_entry w ↦ rw (w.found-is, next)
+            (so_far ∙
+            ap (λ (b : Bool). c.loop-k.found || b)
+            (elem_next args.version list i inside (eqb-false _ _ (sym told ∙ w.if-is_entry.false))))
+      ]),
     )
 
 pub returns : goal.returns

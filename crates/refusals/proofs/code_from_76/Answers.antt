@@ -20,16 +20,16 @@ returns-then-number-le82 c = rw (ranges (goal.at.returns-then-number-le82 c).Sta
 
 pub returns-then-number-eq85 : goal.returns-then-number-eq85
 returns-then-number-eq85 c = rw (
-      ranges (goal.at.returns-then-number-eq85 c).Start,
-      le-ltb _ _ c.if-number-lt80.false,
-      lt-leb _ _ c.if-number-le82.false,
-      eq-eqb _ _ c.if-number-eq85.true,
-    )
+  ranges (goal.at.returns-then-number-eq85 c).Start,
+  le-ltb _ _ c.if-number-lt80.false,
+  lt-leb _ _ c.if-number-le82.false,
+  eq-eqb _ _ c.if-number-eq85.true,
+)
 
 pub returns : goal.returns
 returns c = rw (
-      ranges (goal.at.returns c).Start,
-      le-ltb _ _ c.if-number-lt80.false,
-      lt-leb _ _ c.if-number-le82.false,
-      ne_eqb _ _ c.if-number-eq85.false,
-    )
+  ranges (goal.at.returns c).Start,
+  le-ltb _ _ c.if-number-lt80.false,
+  lt-leb _ _ c.if-number-le82.false,
+  ne_eqb _ _ c.if-number-eq85.false,
+)

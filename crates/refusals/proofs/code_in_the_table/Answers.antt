@@ -18,30 +18,30 @@ returns-then-number-le36 c = rw
 
 pub returns-then-number-eq51 : goal.returns-then-number-eq51
 returns-then-number-eq51 c = rw (
-      by-ranges _ (byte (goal.at.returns-then-number-eq51 c).Start),
-      le-ltb _ _ c.if-number-lt31.false,
-      lt-leb _ _ c.if-number-le36.false,
-      eq-eqb _ _ c.if-number-eq51.true,
-    )
+  by-ranges _ (byte (goal.at.returns-then-number-eq51 c).Start),
+  le-ltb _ _ c.if-number-lt31.false,
+  lt-leb _ _ c.if-number-le36.false,
+  eq-eqb _ _ c.if-number-eq51.true,
+)
 
 pub returns-then-number-lt71 : goal.returns-then-number-lt71
 returns-then-number-lt71 c = rw (
-      by-ranges _ (byte (goal.at.returns-then-number-lt71 c).Start),
-      le-ltb _ _ c.if-number-lt31.false,
-      lt-leb _ _ c.if-number-le36.false,
-      ne_eqb _ _ c.if-number-eq51.false,
-      lt-ltb _ _ c.if-number-lt71.true,
-    )
+  by-ranges _ (byte (goal.at.returns-then-number-lt71 c).Start),
+  le-ltb _ _ c.if-number-lt31.false,
+  lt-leb _ _ c.if-number-le36.false,
+  ne_eqb _ _ c.if-number-eq51.false,
+  lt-ltb _ _ c.if-number-lt71.true,
+)
 
 pub returns-then-number-le75 : goal.returns-then-number-le75
 returns-then-number-le75 c = rw (
-      by-ranges _ (byte (goal.at.returns-then-number-le75 c).Start),
-      le-ltb _ _ c.if-number-lt31.false,
-      lt-leb _ _ c.if-number-le36.false,
-      ne_eqb _ _ c.if-number-eq51.false,
-      le-ltb _ _ c.if-number-lt71.false,
-      le-leb _ _ c.if-number-le75.true,
-    )
+  by-ranges _ (byte (goal.at.returns-then-number-le75 c).Start),
+  le-ltb _ _ c.if-number-lt31.false,
+  lt-leb _ _ c.if-number-le36.false,
+  ne_eqb _ _ c.if-number-eq51.false,
+  le-ltb _ _ c.if-number-lt71.false,
+  le-leb _ _ c.if-number-le75.true,
+)
 
 pub code_from_76-requires : goal.code_from_76-requires
 code_from_76-requires c = c.if-number-le75.false

@@ -12,13 +12,13 @@ returns-then-not-is_usable c = rw (sym c.is_usable.ensures ∙ c.if-not-is_usabl
 pub returns-then-not-is_usable-2 : goal.returns-then-not-is_usable-2
 unfolding pair_keeps_rule
 returns-then-not-is_usable-2 c = rw (
-      sym c.is_usable.ensures ∙ c.if-not-is_usable.false,
-      sym c.is_usable-2.ensures ∙ c.if-not-is_usable-2.true,
-    )
+  sym c.is_usable.ensures ∙ c.if-not-is_usable.false,
+  sym c.is_usable-2.ensures ∙ c.if-not-is_usable-2.true,
+)
 
 pub returns : goal.returns
 unfolding pair_keeps_rule
 returns c = rw (
-      sym c.is_usable.ensures ∙ c.if-not-is_usable.false,
-      sym c.is_usable-2.ensures ∙ c.if-not-is_usable-2.false,
-    )
+  sym c.is_usable.ensures ∙ c.if-not-is_usable.false,
+  sym c.is_usable-2.ensures ∙ c.if-not-is_usable-2.false,
+)

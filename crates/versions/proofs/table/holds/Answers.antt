@@ -19,12 +19,15 @@ loop-i-preserved c = let g = c.args in
     let so_far = c.loop-i.invariant.1 in
     let here = c.loop-i-test.true in (
       omega arith,
-      (elim c.if-list-i.branch [ then-list-i w ↦ rw w.found-is
-          (so_far ∙
-          ap (λ (b : Bool). c.loop-i.found || b) (elem-here g.version g.list.now c.loop-i.i here w.if-list-i.true) ∙
-          or-true c.loop-i.found) | else-list-i w ↦ rw w.found-is
-          (so_far ∙
-          ap (λ (b : Bool). c.loop-i.found || b) (elem_next g.version g.list.now c.loop-i.i here w.if-list-i.false)) ]),
+      (elim c.if-list-i.branch [
+        | then-list-i w ↦ rw w.found-is
+            (so_far ∙
+            ap (λ (b : Bool). c.loop-i.found || b) (elem-here g.version g.list.now c.loop-i.i here w.if-list-i.true) ∙
+            or-true c.loop-i.found)
+        | else-list-i w ↦ rw w.found-is
+            (so_far ∙
+            ap (λ (b : Bool). c.loop-i.found || b) (elem_next g.version g.list.now c.loop-i.i here w.if-list-i.false))
+      ]),
     )
 
 pub returns : goal.returns
