@@ -13,7 +13,7 @@ pub const MAX_EVENTS: u32 = 4294967295;
 
 // The journal. An answer is the number of a refusal, 0 for none; unused places are 0 and last.
 #[repr(C)]
-#[derive(Drop)]
+#[derive(Clone, Copy)]
 pub struct Journal {
     pub answers: [u8; PLACES],
     pub count: u32,
