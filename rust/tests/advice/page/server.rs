@@ -1,8 +1,8 @@
 use quic_version::transport_parameters::{find_version_information, write_version_information};
 use quic_version::{
-    read_header, server_choice, write_information, write_version_negotiation, Decision, Header,
-    Pair, Sender, ServerConfiguration, WriteRefusal, MAX_INFORMATION, MAX_PACKET, VERSION_1,
-    VERSION_2,
+    are_pairs, is_table, read_header, server_choice, write_information, write_version_negotiation,
+    Decision, Header, Pair, Sender, ServerConfiguration, WriteRefusal, MAX_INFORMATION, MAX_PACKET,
+    VERSION_1, VERSION_2,
 };
 
 /// The length of the connection IDs that this server hands out.
@@ -45,8 +45,13 @@ trait Layers {
     fn fault(&mut self, text: &str);
 }
 
+/// Whether the table and the pairs keep their rules.
+fn is_configured() -> bool {
+    is_table(&TABLE) && are_pairs(&PAIRS)
+}
+
 /// Once, when the server starts. One whose configuration is not safe does not start.
-fn is_configured(layers: &mut impl Layers) -> bool {
+fn is_safe(layers: &mut impl Layers) -> bool {
     let configuration = ServerConfiguration {
         readable: &TABLE,
         accepted: &TABLE,

@@ -113,7 +113,12 @@ pub(crate) fn goes_on_with(version: u32, parameters: &[u8]) -> (u32, Vec<u8>) {
 
 #[test]
 fn configured() {
-    assert!(is_configured(&mut Around::default()));
+    assert!(is_configured());
+}
+
+#[test]
+fn safe() {
+    assert!(is_safe(&mut Around::default()));
 }
 
 #[test]
