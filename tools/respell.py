@@ -16,7 +16,7 @@ DECLARED = re.compile(
     r"^ *(?:(?:pub|abbrev|unfoldable) )*(?:(?:record|data|module|ruleset) )?([A-Za-z_][\w'′₀-₉-]*) *:(?!:)", re.M
 )
 CAMEL = re.compile(r"(?:^|[-_])[a-z][a-z0-9]*[A-Z]")
-# Names that would be another thing's: a crate; a type that was named as a function. Then local names that no line declares.
+# A name that would be a crate's, then local names that no line declares.
 OTHERS = {
     "clientInformation": "client_information_of",
     "isClear": "is_clear",

@@ -83,7 +83,9 @@ impl ServerConfiguration<'_> {
             &mut version,
         );
         if number != 0 {
-            return Err(ConfigurationFault::Refused(ConfigurationRefusal::answered(number)));
+            return Err(ConfigurationFault::Refused(ConfigurationRefusal::answered(
+                number,
+            )));
         }
         match part {
             0 => Ok(()),
