@@ -3,7 +3,8 @@
 use Prim.Native.Nat.{ℕ, zero, suc, ◌+◌, ◌<◌, ◌≤◌}
 use mathlib.Core.Bool.{Bool, true, false, cond, not, ◌||◌, true≢false}
 use mathlib.Core.List.{List, [], ◌∷◌}
-use mathlib.Core.Option.{Option, Option.none, Option.some, none-ne-some, some-injective}
+use Rattle.std.specs.Prelude.{Option, None, Some}
+use Rattle.std.proofs.lemmas.Option.{none-some, same_Some}
 use mathlib.Core.Path.{◌≡◌, refl, sym, ap, subst, ◌∙◌}
 use native.Mathlib.Omega.{arith}
 use lib.Dec.{eqb, leb, ltb}
@@ -40,8 +41,8 @@ from_nothing (v ∷ own) place = ap (λ (l : List ℕ). v ∷ l) (from_nothing o
 pub sent-nothing : (own : List ℕ) → list_as_sent own [] ≡ own
 unfolding list_as_sent
 sent-nothing own =
-    let none : length own + 0 ≡ length own = omega arith in
-    ap (λ (n : ℕ). sent_from n 0 own []) none ∙ from_nothing own 0
+    let None : length own + 0 ≡ length own = omega arith in
+    ap (λ (n : ℕ). sent_from n 0 own []) None ∙ from_nothing own 0
 
 -- ---- the rule, taken apart
 
@@ -84,7 +85,7 @@ apart one other given h = go (eqb (number_in other) (number_in one)) (eqb (place
     go false true e h = absurd (true≢false h)
     go false false e h = (eqb-false _ _ e, h)
 
-none-for : (one : List ℕ) (given : List (List ℕ)) → is_taken one given ≡ false → given_for given (place_in one) ≡ none
+none-for : (one : List ℕ) (given : List (List ℕ)) → is_taken one given ≡ false → given_for given (place_in one) ≡ None
 unfolding given_for
 none-for one [] h = refl
 none-for one (other ∷ given) h =
@@ -94,7 +95,7 @@ none-for one (other ∷ given) h =
 -- ---- each number at its place
 
 found : (count : ℕ) (given : List (List ℕ)) (i : ℕ) → each_given_keeps_rule count given ≡ true → i < length given
-    → (given_for given (place_in (get_or given i [])) ≡ some (number_in (get_or given i []))) × (place_in (get_or given i []) < count)
+    → (given_for given (place_in (get_or given i [])) ≡ Some (number_in (get_or given i []))) × (place_in (get_or given i []) < count)
 unfolding given_for
 found count [] i h l = absurd (omega arith)
 found count (one ∷ given) zero h l =
@@ -105,11 +106,11 @@ found count (one ∷ given) (suc i) h l =
     (rw (ne_eqb (place_in one) (place_in (get_or given i [])) (other r.0 k.alone)) r.0, r.1)
   where
     -- the place of one is not that of another, since of the others none is given for it
-    other : given_for given (place_in (get_or given i [])) ≡ some (number_in (get_or given i [])) → is_taken one given ≡ false
+    other : given_for given (place_in (get_or given i [])) ≡ Some (number_in (get_or given i [])) → is_taken one given ≡ false
         → place_in one ≡ place_in (get_or given i []) → ⊥
-    other r alone e = none-ne-some _ (sym (none-for one given alone) ∙ ap (given_for given) e ∙ r)
+    other r alone e = none-some _ (sym (none-for one given alone) ∙ ap (given_for given) e ∙ r)
 
-at_place : (count place : ℕ) (own : List ℕ) (given : List (List ℕ)) (k r : ℕ) → given_for given (place + k) ≡ some r → k < count
+at_place : (count place : ℕ) (own : List ℕ) (given : List (List ℕ)) (k r : ℕ) → given_for given (place + k) ≡ Some r → k < count
     → get_or (sent_from count place own given) k 0 ≡ r
 unfolding sent_from
 at_place zero place own given k r h l = absurd (omega arith)
@@ -151,26 +152,26 @@ beyond place q other = go (leb place q) refl
     go false e = let l = leb-false place q e in sym (lt-leb (suc place) q (omega arith))
 
 -- where none is given for it
-from-none : (given : List (List ℕ)) (place : ℕ) → given_for given place ≡ none → from_place place given ≡ from_place (suc place) given
+from-none : (given : List (List ℕ)) (place : ℕ) → given_for given place ≡ None → from_place place given ≡ from_place (suc place) given
 unfolding given_for from_place
 from-none [] place h = refl
 from-none (one ∷ given) place h = go (eqb (place_in one) place) refl h (from-none given place)
   where
-    go : (b : Bool) → eqb (place_in one) place ≡ b → cond b (some (number_in one)) (given_for given place) ≡ none →
-        (given_for given place ≡ none → from_place place given ≡ from_place (suc place) given) →
+    go : (b : Bool) → eqb (place_in one) place ≡ b → cond b (Some (number_in one)) (given_for given place) ≡ None →
+        (given_for given place ≡ None → from_place place given ≡ from_place (suc place) given) →
         bit (leb place (place_in one)) + from_place place given ≡ bit (leb (suc place) (place_in one)) + from_place (suc place) given
-    go true e h ih = absurd (none-ne-some _ (sym h))
+    go true e h ih = absurd (none-some _ (sym h))
     go false e h ih = rw (beyond place (place_in one) (eqb-false _ _ e), ih h)
 
 -- where one is, and it is reserved
-from_some : (count : ℕ) (given : List (List ℕ)) (place r : ℕ) → each_given_keeps_rule count given ≡ true → given_for given place ≡ some r
+from_some : (count : ℕ) (given : List (List ℕ)) (place r : ℕ) → each_given_keeps_rule count given ≡ true → given_for given place ≡ Some r
     → (from_place place given ≡ suc (from_place (suc place) given)) × (reserved r ≡ true)
 unfolding given_for from_place
-from_some count [] place r k h = absurd (none-ne-some r h)
+from_some count [] place r k h = absurd (none-some r h)
 from_some count (one ∷ given) place r k h = go (eqb (place_in one) place) refl h (kept count one given k) (from_some count given place r)
   where
-    go : (b : Bool) → eqb (place_in one) place ≡ b → cond b (some (number_in one)) (given_for given place) ≡ some r → Kept count one given →
-        (each_given_keeps_rule count given ≡ true → given_for given place ≡ some r →
+    go : (b : Bool) → eqb (place_in one) place ≡ b → cond b (Some (number_in one)) (given_for given place) ≡ Some r → Kept count one given →
+        (each_given_keeps_rule count given ≡ true → given_for given place ≡ Some r →
         (from_place place given ≡ suc (from_place (suc place) given)) × (reserved r ≡ true)) →
         (bit (leb place (place_in one)) + from_place place given ≡ suc (bit (leb (suc place) (place_in one)) + from_place (suc place) given))
         × (reserved r ≡ true)
@@ -178,7 +179,7 @@ from_some count (one ∷ given) place r k h = go (eqb (place_in one) place) refl
         let here : place_in one ≡ place = eqb-true _ _ e in
         let rest = from-none given place (sym (ap (given_for given) here) ∙ none-for one given k.alone) in (
           rw (le-leb place (place_in one) (omega arith), lt-leb (suc place) (place_in one) (omega arith), rest) (omega arith),
-          sym (ap reserved (some-injective _ _ h)) ∙ k.reserves,
+          sym (ap reserved (same_Some _ _ h)) ∙ k.reserves,
         )
     go false e h k ih =
         let p = ih k.others h in
@@ -191,7 +192,7 @@ from_end count [] place k l = refl
 from_end count (one ∷ given) place k l =
     let one_kept = kept count one given k in
     let before = one_kept.within in
-    let none = from_end count given place one_kept.others l in
+    let None = from_end count given place one_kept.others l in
     rw (lt-leb place (place_in one) (omega arith)) (omega arith)
 
 -- The places that are left behind a place, counted from the next one
@@ -208,8 +209,8 @@ from-most (suc left) place given k =
     go (given_for given place) refl (from-most left (suc place) given (next-left left place given k))
   where
     go : (o : Option ℕ) → given_for given place ≡ o → from_place (suc place) given ≤ left → from_place place given ≤ suc left
-    go none e more = let stays = from-none given place e in omega arith
-    go (some r) e more = let less = (from_some _ given place r k e).0 in omega arith
+    go None e more = let stays = from-none given place e in omega arith
+    go (Some r) e more = let less = (from_some _ given place r k e).0 in omega arith
 
 from-without : (left place : ℕ) (own : List ℕ) (given : List (List ℕ)) → each_given_keeps_rule (place + left) given ≡ true
     → length own + from_place place given ≡ left → without_reserved (sent_from left place own given) ≡ without_reserved own
@@ -223,16 +224,16 @@ from-without (suc left) place own given k h =
         ((rest : List ℕ) → length rest + from_place (suc place) given ≡ left →
         without_reserved (sent_from left (suc place) rest given) ≡ without_reserved rest) →
         without_reserved (sent_at o own ∷ sent_from left (suc place) (own_after o own) given) ≡ without_reserved own
-    go (some r) e own h ih =
+    go (Some r) e own h ih =
         let one = from_some _ given place r k e in
         let less = one.0 in
         rw one.1 (ih own (omega arith))
     -- own versions never run out early
-    go none e [] h ih =
+    go None e [] h ih =
         let stays = from-none given place e in
         let most = from-most left (suc place) given (next-left left place given k) in
         absurd (omega arith)
-    go none e (v ∷ own) h ih =
+    go None e (v ∷ own) h ih =
         let stays = from-none given place e in
         ap (keep_if (not (reserved v)) v) (ih own (omega arith))
 

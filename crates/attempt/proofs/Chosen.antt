@@ -6,7 +6,8 @@ use Prim.Native.Nat.{ℕ, ◌%◌, ◌≤◌}
 use mathlib.Core.Bool.{Bool, true, false, cond, not}
 use mathlib.Core.List.{List, [], ◌∷◌, ◌++◌}
 use mathlib.Core.Logic.{◌↔◌}
-use mathlib.Core.Option.{Option, Option.none, Option.some, some-injective, none-ne-some}
+use Rattle.std.specs.Prelude.{Option, None, Some}
+use Rattle.std.proofs.lemmas.Option.{same_Some, none-some}
 use mathlib.Core.Path.{◌≡◌, refl, sym, ap, ◌∙◌}
 use native.Mathlib.Omega.{arith}
 use lib.Dec.{eqb, ltb}
@@ -26,16 +27,14 @@ use Rattle.invariants.specs.Header.{is_readable_negotiation, listed}
 use Rattle.invariants.proofs.Negotiations.{readable-known}
 use Rattle.information.specs.Information.{chosen_of, available_of, form_rules}
 use Rattle.information.specs.Limits.{max_information}
-use Rattle.information.specs.declared.Presence.{Presence}
-use Rattle.information.specs.declared.Presence.TheVariants.{Missing, Given}
+use Rattle.information.specs.Presence.{Presence, Presence.Missing, Presence.Given}
 use Rattle.attempt.specs.Attempt.{table_of}
 use Rattle.attempt.specs.Demand.{fits, acted_at, acted_with, fitting_at, first_fitting, Handshake, VersionInformation}
 use Rattle.attempt.specs.Demand.{information_read, information_of, stand_in, CompletedAgainst}
 use Rattle.attempt.specs.Events.{Handed, Reachable}
 use Rattle.attempt.specs.Start.{Input, is_accepted}
 use Rattle.attempt.specs.declared.Attempt.{Attempt}
-use Rattle.attempt.specs.declared.Event.{Event}
-use Rattle.attempt.specs.declared.Event.TheVariants.{Datagram, PacketProcessed, Outcome}
+use Rattle.attempt.specs.Event.{Event, Event.Datagram, Event.PacketProcessed, Event.Outcome}
 use Rattle.attempt.proofs.Demand3.{chosen-from}
 use Rattle.attempt.proofs.Keeps.{Keeps, every-attempt, start-keeps}
 use Rattle.attempt.proofs.Phases.{opened-reads}
@@ -48,10 +47,10 @@ module _ (t l : List ℕ) (keeps : table_keeps_rule t ≡ true) (within : length
   pick_chosen = rw (choose-preferred t l keeps within) (go (preferred t l))
     where
       go : (o : Option ℕ) → o ≡ version_chosen (or_nothing_in_common o)
-      go none = refl
-      go (some v) = refl
+      go None = refl
+      go (Some v) = refl
 
-  pick-is-answer : (v : ℕ) → (preferred t l ≡ some v) ↔ (choose t l ≡ answered v)
+  pick-is-answer : (v : ℕ) → (preferred t l ≡ Some v) ↔ (choose t l ≡ answered v)
   pick-is-answer v = (
     (λ p. choose-preferred t l keeps within ∙ ap or_nothing_in_common p),
     (λ c. pick_chosen ∙ ap version_chosen c),
@@ -84,21 +83,21 @@ given-within bytes u formed =
     let added = length-append (available_of bytes) (u ∷ []) in
     omega arith
 
-available-within : (v : ℕ) (p : Presence) (bytes : List ℕ) (i : VersionInformation) (u : ℕ) → information_read v p bytes ≡ some i →
+available-within : (v : ℕ) (p : Presence) (bytes : List ℕ) (i : VersionInformation) (u : ℕ) → information_read v p bytes ≡ Some i →
     length (i.available ++ (u ∷ [])) ≤ max_list
 available-within v Missing bytes i u read = go (eqb v 1) read
   where
-    go : (b : Bool) → cond b (some stand_in) none ≡ some i → length (i.available ++ (u ∷ [])) ≤ max_list
-    go true e = rw (← some-injective stand_in i e) (omega arith)
-    go false e = absurd (none-ne-some i e)
+    go : (b : Bool) → cond b (Some stand_in) None ≡ Some i → length (i.available ++ (u ∷ [])) ≤ max_list
+    go true e = rw (← same_Some stand_in i e) (omega arith)
+    go false e = absurd (none-some i e)
 available-within v Given bytes i u read = go (clear (form_rules bytes)) refl read
   where
     given : VersionInformation
     given = record { chosen = chosen_of bytes; available = available_of bytes }
 
-    go : (b : Bool) → clear (form_rules bytes) ≡ b → cond b (some given) none ≡ some i → length (i.available ++ (u ∷ [])) ≤ max_list
-    go true f e = rw (← some-injective given i e) (given-within bytes u f)
-    go false f e = absurd (none-ne-some i e)
+    go : (b : Bool) → clear (form_rules bytes) ≡ b → cond b (Some given) None ≡ Some i → length (i.available ++ (u ∷ [])) ≤ max_list
+    go true f e = rw (← same_Some given i e) (given-within bytes u f)
+    go false f e = absurd (none-some i e)
 
 -- The step, for every attempt
 
@@ -110,7 +109,7 @@ act-by-choose a d r readable = pick_chosen (table_of a) (listed d) (attempt-keep
 -- At an outcome whose information is read, or has its stand-in: the pick that 75 compares with the attempted version
 -- is the answer of `choose` on Available with the version in use added
 pub outcome-by-choose : (a : Attempt) (in_use : ℕ) (presence : Presence) (bytes : List ℕ) (i : VersionInformation) → Reachable a →
-    information_read a.attempted presence bytes ≡ some i →
+    information_read a.attempted presence bytes ≡ Some i →
     preferred (table_of a) (i.available ++ (in_use ∷ [])) ≡ version_chosen (choose (table_of a) (i.available ++ (in_use ∷ [])))
 outcome-by-choose a u p bytes i r read =
     pick_chosen (table_of a) (i.available ++ (u ∷ [])) (attempt-keeps a r)
@@ -120,8 +119,8 @@ outcome-by-choose a u p bytes i r read =
 
 -- what the client acted with comes from the first packet that fits
 abbrev acted-from : Input → Option (List ℕ) → Option ℕ
-acted-from x none = none
-acted-from x (some d) = preferred x.table (listed d)
+acted-from x None = None
+acted-from x (Some d) = preferred x.table (listed d)
 
 acted-first : (x : Input) (es : List Handed) → acted_with x es ≡ acted-from x (first_fitting x es)
 unfolding acted_with first_fitting
@@ -129,7 +128,7 @@ acted-first x [] = refl
 acted-first x (e ∷ es) = go e.event (acted-first x es)
   where
     packet : (b : Bool) → acted_with x es ≡ acted-from x (first_fitting x es) →
-        cond b (preferred x.table (listed e.bytes)) (acted_with x es) ≡ acted-from x (cond b (some e.bytes) (first_fitting x es))
+        cond b (preferred x.table (listed e.bytes)) (acted_with x es) ≡ acted-from x (cond b (Some e.bytes) (first_fitting x es))
     packet true ih = refl
     packet false ih = ih
 
@@ -140,48 +139,48 @@ acted-first x (e ∷ es) = go e.event (acted-first x es)
     go (Outcome u p) ih = refl
 
 -- which is readable
-first-readable : (x : Input) (es : List Handed) (d : List ℕ) → first_fitting x es ≡ some d → is_readable_negotiation d ≡ true
+first-readable : (x : Input) (es : List Handed) (d : List ℕ) → first_fitting x es ≡ Some d → is_readable_negotiation d ≡ true
 unfolding first_fitting
-first-readable x [] d h = absurd (none-ne-some d h)
+first-readable x [] d h = absurd (none-some d h)
 first-readable x (e ∷ es) d h = go e.event h (first-readable x es d)
   where
-    packet : (b : Bool) → fits x e.bytes ≡ b → cond b (some e.bytes) (first_fitting x es) ≡ some d →
-        (first_fitting x es ≡ some d → is_readable_negotiation d ≡ true) → is_readable_negotiation d ≡ true
+    packet : (b : Bool) → fits x e.bytes ≡ b → cond b (Some e.bytes) (first_fitting x es) ≡ Some d →
+        (first_fitting x es ≡ Some d → is_readable_negotiation d ≡ true) → is_readable_negotiation d ≡ true
     packet true f q ih =
-        rw (← some-injective e.bytes d q)
+        rw (← same_Some e.bytes d q)
         (not-false _ (not-true _ (both_true (not (not (is_readable_negotiation e.bytes))) _ f).0))
     packet false f q ih = ih q
 
-    go : (ev : Event) → fitting_at x ev e.bytes (first_fitting x es) ≡ some d →
-        (first_fitting x es ≡ some d → is_readable_negotiation d ≡ true) → is_readable_negotiation d ≡ true
+    go : (ev : Event) → fitting_at x ev e.bytes (first_fitting x es) ≡ Some d →
+        (first_fitting x es ≡ Some d → is_readable_negotiation d ≡ true) → is_readable_negotiation d ≡ true
     go Datagram q ih = packet (fits x e.bytes) refl q ih
-    go PacketProcessed q ih = absurd (none-ne-some d q)
-    go (Outcome u p) q ih = absurd (none-ne-some d q)
+    go PacketProcessed q ih = absurd (none-some d q)
+    go (Outcome u p) q ih = absurd (none-some d q)
 
 pub acted-by-choose : (x : Input) (events : List Handed) (attempted : ℕ) →
     is_accepted x ≡ true →  -- for every start that isn't refused
-    (acted_with x events ≡ some attempted) ↔  -- the client acted with a version exactly when
-    ((d : List ℕ) × (first_fitting x events ≡ some d) ×  -- a packet fits, the first before any heard or outcome,
+    (acted_with x events ≡ Some attempted) ↔  -- the client acted with a version exactly when
+    ((d : List ℕ) × (first_fitting x events ≡ Some d) ×  -- a packet fits, the first before any heard or outcome,
     (choose x.table (listed d) ≡ answered attempted))  -- and that version is the answer of `choose` on its list
 acted-by-choose x events v accepted = (
   (λ acted. go (first_fitting x events) refl (sym (acted-first x events) ∙ acted)),
   (λ (d, first, choice). acted-first x events ∙ ap (acted-from x) first ∙ (from_list d first).1 choice),
 )
   where
-    from_list : (d : List ℕ) → first_fitting x events ≡ some d →
-        (preferred x.table (listed d) ≡ some v) ↔ (choose x.table (listed d) ≡ answered v)
+    from_list : (d : List ℕ) → first_fitting x events ≡ Some d →
+        (preferred x.table (listed d) ≡ Some v) ↔ (choose x.table (listed d) ≡ answered v)
     from_list d first =
         pick-is-answer x.table (listed d) (start-keeps x accepted) (packet-within d (first-readable x events d first)) v
 
-    go : (o : Option (List ℕ)) → first_fitting x events ≡ o → acted-from x o ≡ some v →
-        (d : List ℕ) × (first_fitting x events ≡ some d) × (choose x.table (listed d) ≡ answered v)
-    go none first q = absurd (none-ne-some v q)
-    go (some d) first q = (d, first, (from_list d first).0 q)
+    go : (o : Option (List ℕ)) → first_fitting x events ≡ o → acted-from x o ≡ Some v →
+        (d : List ℕ) × (first_fitting x events ≡ Some d) × (choose x.table (listed d) ≡ answered v)
+    go None first q = absurd (none-some v q)
+    go (Some d) first q = (d, first, (from_list d first).0 q)
 
 pub good-by-choose : (x : Input) (attempted : ℕ) (h : Handshake) (i : VersionInformation) →
     is_accepted x ≡ true →  -- for every start that isn't refused
-    information_of attempted h ≡ some i →  -- and an outcome with well formed information, or its stand-in:
-    (preferred x.table (i.available ++ (h.in_use ∷ [])) ≡ some attempted) ↔  -- what `Good` asks of the choice says that
+    information_of attempted h ≡ Some i →  -- and an outcome with well formed information, or its stand-in:
+    (preferred x.table (i.available ++ (h.in_use ∷ [])) ≡ Some attempted) ↔  -- what `Good` asks of the choice says that
     (choose x.table (i.available ++ (h.in_use ∷ [])) ≡ answered attempted)  -- `choose` answers the attempted version
 good-by-choose x v h i accepted read =
     pick-is-answer x.table (i.available ++ (h.in_use ∷ [])) (start-keeps x accepted)

@@ -3,7 +3,7 @@
 use Prim.Native.Nat.{ℕ}
 use mathlib.Core.Bool.{Bool, true, false, cond, not, false≢true}
 use mathlib.Core.List.{List, [], ◌∷◌}
-use mathlib.Core.Option.{Option, Option.none, Option.some}
+use Rattle.std.specs.Prelude.{Option, None, Some}
 use mathlib.Core.Path.{◌≡◌, refl, sym, ap, ◌∙◌}
 use lib.Dec.{eqb}
 use borrow.Author.Tests.{eqb-true, not-false, not-true}
@@ -14,8 +14,7 @@ use Rattle.versions.proofs.Members.{members-held}
 use Rattle.choosing.specs.Choice.{preferred}
 use Rattle.invariants.specs.Header.{listed}
 use Rattle.information.specs.Information.{chosen_of, available_of, form_rules}
-use Rattle.information.specs.declared.Presence.{Presence}
-use Rattle.information.specs.declared.Presence.TheVariants.{Missing, Given}
+use Rattle.information.specs.Presence.{Presence, Presence.Missing, Presence.Given}
 use Rattle.attempt.specs.Attempt.{table_of, own_of, is_open, is_completed, put}
 use Rattle.attempt.specs.Limits.{not_a_record}
 use Rattle.attempt.specs.OwnList.{word_of}
@@ -25,15 +24,14 @@ use Rattle.attempt.specs.Step.{step_of, step_of_any, counts_fit, could_be_attemp
 use Rattle.attempt.specs.declared.Attempt.{Attempt}
 use Rattle.attempt.specs.declared.End.{End}
 use Rattle.attempt.specs.declared.End.TheVariants as end
-use Rattle.attempt.specs.declared.Event.{Event}
-use Rattle.attempt.specs.declared.Event.TheVariants.{Datagram, PacketProcessed, Outcome}
+use Rattle.attempt.specs.Event.{Event, Event.Datagram, Event.PacketProcessed, Event.Outcome}
 use Rattle.attempt.proofs.Phases.{completes-clear, open-outcome}
 
 -- The version that an end mark says completed
 abbrev version_in : End → ℕ → ℕ
 version_in end.Open other = other
 version_in (end.Completed v) other = v
-version_in (end.Closed n) other = other
+version_in (end.Closed r) other = other
 
 module _ (a : Attempt) (in_table : elem a.attempted (table_of a) ≡ true) where
   -- 72 and 73: Chosen is in the own list, and is the version in use
@@ -76,8 +74,8 @@ module _ (a : Attempt) (in_table : elem a.attempted (table_of a) ≡ true) where
 
   -- no other event completes anything
   act-not-completed : (o : Option ℕ) → a.end ≡ end.Open → is_completed (act_on a o).attempt.end ≡ false
-  act-not-completed none still_Open = refl
-  act-not-completed (some v) still_Open = ap is_completed still_Open
+  act-not-completed None still_Open = refl
+  act-not-completed (Some v) still_Open = ap is_completed still_Open
 
   step-in-table : (e : Event) (bytes : List ℕ) (v : ℕ) → a.end ≡ end.Open →
       (step_of a e bytes).attempt.end ≡ end.Completed v → elem v (table_of a) ≡ true

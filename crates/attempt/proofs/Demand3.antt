@@ -9,7 +9,8 @@ use Prim.Native.Nat.{ℕ}
 use mathlib.Core.Bool.{Bool, true, false, not, ◌||◌, or-false, false≢true}
 use mathlib.Core.List.{List, [], ◌∷◌, ◌++◌}
 use mathlib.Core.Logic.{◌≢◌, ◌↔◌}
-use mathlib.Core.Option.{Option, Option.none, Option.some, some-injective}
+use Rattle.std.specs.Prelude.{Option, None, Some}
+use Rattle.std.proofs.lemmas.Option.{same_Some}
 use mathlib.Core.Path.{◌≡◌, refl, sym, ap, ◌∙◌}
 use lib.Dec.{eqb, eqb-suc-zero}
 use lib.ListN.{length}
@@ -26,8 +27,7 @@ use Rattle.attempt.specs.Events.{Handed, run}
 use Rattle.attempt.specs.Start.{Input, our_list, Start, Nothing.nothing, start_rules, is_accepted, start_of, refused_start, opened}
 use Rattle.attempt.specs.Step.{picks}
 use Rattle.attempt.specs.declared.Attempt.{Attempt}
-use Rattle.attempt.specs.declared.Event.{Event}
-use Rattle.attempt.specs.declared.Event.TheVariants.{Datagram, PacketProcessed, Outcome}
+use Rattle.attempt.specs.Event.{Event, Event.Datagram, Event.PacketProcessed, Event.Outcome}
 use Rattle.attempt.proofs.Phases.{Fresh, opened-reads, fresh-run, is_good_information, is_good_at, first_is_good}
 
 -- The start
@@ -44,9 +44,9 @@ opened-fresh x = record { reads = opened-reads x; acted = refl; heard = refl; op
 
 -- Good, as a test and as its five parts
 
-picked : (o : Option ℕ) (v : ℕ) → picks o v ≡ true → o ≡ some v
-picked none v h = absurd (false≢true h)
-picked (some w) v h = ap some (eqb-true w v h)
+picked : (o : Option ℕ) (v : ℕ) → picks o v ≡ true → o ≡ Some v
+picked None v h = absurd (false≢true h)
+picked (Some w) v h = ap Some (eqb-true w v h)
 
 holds-some : (l : List ℕ) → not (eqb (length l) 0) ≡ true → l ≢ []
 holds-some l h e = false≢true (sym (ap (λ (m : List ℕ). not (eqb (length m) 0)) e) ∙ h)
@@ -57,8 +57,8 @@ counts_some (v ∷ l) h = rw (eqb-suc-zero (length l))
 
 test_good : (x : Input) (v : ℕ) (h : Handshake) (o : Option VersionInformation) → information_of v h ≡ o →
     is_good_information x v h.in_use o ≡ true → Good x v h
-test_good x v h none e t = absurd (false≢true t)
-test_good x v h (some i) e t =
+test_good x v h None e t = absurd (false≢true t)
+test_good x v h (Some i) e t =
     let a = both_true (elem i.chosen (our_list x v)) _ t in
     let b = both_true (eqb i.chosen h.in_use) _ a.1 in
     let c = both_true (not (eqb (length i.available) 0)) _ b.1 in
@@ -85,8 +85,8 @@ good-test x v h g =
 -- The first outcome
 
 outcome-test : Input → ℕ → Option Handshake → Bool
-outcome-test x v none = false
-outcome-test x v (some h) = is_good_information x v h.in_use (information_of v h)
+outcome-test x v None = false
+outcome-test x v (Some h) = is_good_information x v h.in_use (information_of v h)
 
 first-tested : (x : Input) (v : ℕ) (es : List Handed) → first_is_good x v es ≡ outcome-test x v (first_outcome es)
 unfolding first_is_good first_outcome outcome-test
@@ -100,16 +100,16 @@ first-tested x v (e ∷ es) = go e.event (first-tested x v es)
     go (Outcome u p) ih = refl
 
 first_good : (x : Input) (v : ℕ) (es : List Handed) → first_is_good x v es ≡ true →
-    (h : Handshake) × (first_outcome es ≡ some h) × Good x v h
+    (h : Handshake) × (first_outcome es ≡ Some h) × Good x v h
 unfolding outcome-test
 first_good x v es t = go (first_outcome es) refl (sym (first-tested x v es) ∙ t)
   where
     go : (o : Option Handshake) → first_outcome es ≡ o → outcome-test x v o ≡ true →
-        (h : Handshake) × (first_outcome es ≡ some h) × Good x v h
-    go none e t = absurd (false≢true t)
-    go (some h) e t = (h, e, test_good x v h (information_of v h) refl t)
+        (h : Handshake) × (first_outcome es ≡ Some h) × Good x v h
+    go None e t = absurd (false≢true t)
+    go (Some h) e t = (h, e, test_good x v h (information_of v h) refl t)
 
-good-first : (x : Input) (v : ℕ) (es : List Handed) → (h : Handshake) × (first_outcome es ≡ some h) × Good x v h →
+good-first : (x : Input) (v : ℕ) (es : List Handed) → (h : Handshake) × (first_outcome es ≡ Some h) × Good x v h →
     first_is_good x v es ≡ true
 unfolding outcome-test
 good-first x v es g =
@@ -119,9 +119,9 @@ good-first x v es g =
 
 pub demand-3 : (x : Input) (events : List Handed) (attempted : ℕ) →
     is_accepted x ≡ true →  -- for every start that isn't refused
-    acted_with x events ≡ some attempted →  -- a client that acted on a Version Negotiation packet
+    acted_with x events ≡ Some attempted →  -- a client that acted on a Version Negotiation packet
     (is_completed (run (start_of x).attempt events).end ≡ true) ↔  -- has completed exactly when
-    ((h : Handshake) × (first_outcome events ≡ some h) ×  -- it was handed an outcome
+    ((h : Handshake) × (first_outcome events ≡ Some h) ×  -- it was handed an outcome
     Good x attempted h)  -- and the first one was good
 demand-3 x events v accepted acted =
     let e : is_completed (run (start_of x).attempt events).end ≡ first_is_good x v events =
@@ -141,12 +141,12 @@ added t l u h = preferred-by-membership t (l ++ (u ∷ [])) l (λ v held. elem-a
     go v false e = or-false (elem v l)
 
 -- what such a client attempted is what its table chooses from the list that it completed against
-pub chosen-from : (l : List ℕ) (x : Input) (events : List Handed) (v : ℕ) → CompletedAgainst l x events v → preferred x.table l ≡ some v
+pub chosen-from : (l : List ℕ) (x : Input) (events : List Handed) (v : ℕ) → CompletedAgainst l x events v → preferred x.table l ≡ Some v
 chosen-from l x events v c =
     let g = (demand-3 x events v c.accepted c.acted).0 c.completed in
-    let h : g.0 ≡ c.handshake = some-injective _ _ (sym g.1 ∙ c.first) in
+    let h : g.0 ≡ c.handshake = same_Some _ _ (sym g.1 ∙ c.first) in
     let i : g.2.information ≡ c.information =
-    some-injective _ _ (sym g.2.well_formed ∙ ap (information_of v) h ∙ c.read) in
+    same_Some _ _ (sym g.2.well_formed ∙ ap (information_of v) h ∙ c.read) in
     sym (added x.table l c.handshake.in_use c.holds_version_in_use) ∙
     ap (λ (k : Handshake). preferred x.table (l ++ (k.in_use ∷ []))) (sym h) ∙
     ap (λ (m : List ℕ). preferred x.table (m ++ (g.0.in_use ∷ [])))
@@ -159,5 +159,5 @@ pub two-clients : (available : List ℕ) (x y : Input) (events others : List Han
     CompletedAgainst available y others w →  -- and it holds the version in use at each:
     v ≡ w  -- they attempted the same version
 two-clients l x y es fs v w same c d =
-    some-injective v w
+    same_Some v w
     (sym (chosen-from l x es v c) ∙ ap (λ (t : List ℕ). preferred t l) same ∙ chosen-from l y fs w d)

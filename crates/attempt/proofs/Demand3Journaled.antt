@@ -5,7 +5,7 @@ use Prim.Native.Nat.{ℕ}
 use mathlib.Core.Bool.{Bool, true}
 use mathlib.Core.List.{List}
 use mathlib.Core.Logic.{◌↔◌}
-use mathlib.Core.Option.{Option.some}
+use Rattle.std.specs.Prelude.{Some}
 use mathlib.Core.Path.{◌≡◌, ap, subst}
 use Rattle.attempt.specs.Attempt.{is_completed}
 use Rattle.attempt.specs.Demand.{acted_with, Handshake, first_outcome, Good, CompletedBy, CompletedAgainst, JournaledCompletedAgainst}
@@ -16,9 +16,9 @@ use Rattle.attempt.proofs.Unread.{same_end}
 
 pub demand-3-journaled : (x : Input) (events : List Handed) (attempted : ℕ) →
     is_accepted x ≡ true →  -- for every start that isn't refused
-    acted_with x events ≡ some attempted →  -- a client that acted on a Version Negotiation packet
+    acted_with x events ≡ Some attempted →  -- a client that acted on a Version Negotiation packet
     (is_completed (journaled_run (start_of x).attempt events).end ≡ true) ↔  -- has completed exactly when
-    ((h : Handshake) × (first_outcome events ≡ some h) ×  -- it was handed an outcome
+    ((h : Handshake) × (first_outcome events ≡ Some h) ×  -- it was handed an outcome
     Good x attempted h)  -- and the first one was good
 demand-3-journaled x events v accepted acted =
     rw (same_end (start_of x).attempt events) (demand-3 x events v accepted acted)

@@ -3,7 +3,7 @@
 use Prim.Native.Nat.{ℕ}
 use mathlib.Core.Bool.{Bool, true, false, cond, not}
 use mathlib.Core.List.{List, [], ◌∷◌, ◌++◌, append-nil}
-use mathlib.Core.Option.{Option, Option.none, Option.some}
+use Rattle.std.specs.Prelude.{Option, None, Some}
 use mathlib.Core.Path.{◌≡◌, refl, sym, ap, ◌∙◌}
 use native.Mathlib.Omega.{arith}
 use borrow.Author.Tests.{ltb-true, ne_eqb}
@@ -25,8 +25,7 @@ use Rattle.attempt.specs.Start.{Input, Start, start_rules, start_of, refused_sta
 use Rattle.attempt.specs.Step.{After, Effect.notes, after, unchanged, closed, completed, act_on}
 use Rattle.attempt.specs.Step.{datagram_rules, information_rules, could_be_attempt, step_of, step_of_any, on_datagram, on_processed, on_outcome}
 use Rattle.attempt.specs.declared.Attempt.{Attempt}
-use Rattle.attempt.specs.declared.Event.{Event}
-use Rattle.attempt.specs.declared.Event.TheVariants.{Datagram, PacketProcessed, Outcome}
+use Rattle.attempt.specs.Event.{Event, Event.Datagram, Event.PacketProcessed, Event.Outcome}
 use Rattle.attempt.proofs.Keeps.{below_outside, numbers_pass, lowest-passing, outcome-passes}
 use Rattle.attempt.proofs.Unread.{step-journal}
 
@@ -70,8 +69,8 @@ module _ (a : Attempt) where
   unlike n below = let l = ltb-true n not_a_record below in ne_eqb n not_a_record (λ e. omega (arith, l, e))
 
   acted-known : (o : Option ℕ) → Known (act_on a o)
-  acted-known none = refl
-  acted-known (some v) = refl
+  acted-known None = refl
+  acted-known (Some v) = refl
 
   outcome-known : (open? : Bool) (rules : List Rule) (u : ℕ) → numbers_pass rules ≡ true →
       Known (cond open? (lowest (closed a) rules (completed a u)) (unchanged a 62))

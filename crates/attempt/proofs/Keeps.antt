@@ -4,7 +4,7 @@
 use Prim.Native.Nat.{ℕ, ◌≤◌}
 use mathlib.Core.Bool.{Bool, true, false, cond, not, ◌&&◌, and-false, or-true, false≢true}
 use mathlib.Core.List.{List, [], ◌∷◌}
-use mathlib.Core.Option.{Option, Option.none, Option.some}
+use Rattle.std.specs.Prelude.{Option, None, Some}
 use mathlib.Core.Path.{◌≡◌, refl, sym, subst, ◌∙◌}
 use native.Mathlib.Omega.{arith}
 use lib.Dec.{leb, ltb}
@@ -19,8 +19,7 @@ use Rattle.versions.specs.Table.{elem, table_keeps_rule}
 use Rattle.versions.proofs.Lists.{table-counts}
 use Rattle.invariants.specs.Header.{listed}
 use Rattle.journal.specs.declared.Journal.{Journal}
-use Rattle.information.specs.declared.Presence.{Presence}
-use Rattle.information.specs.declared.Presence.TheVariants.{Missing, Given}
+use Rattle.information.specs.Presence.{Presence, Presence.Missing, Presence.Given}
 use Rattle.attempt.specs.Attempt.{table_of, is_open, put, with_journal}
 use Rattle.attempt.specs.Events.{Handed, journaled_run, Reachable}
 use Rattle.attempt.specs.Journaled.{journaled_step}
@@ -29,8 +28,7 @@ use Rattle.attempt.specs.Start.{Input, is_accepted, start_of, opened, blank}
 use Rattle.attempt.specs.Step.{After, Effect.notes, act_on, after, closed, completed, unchanged, datagram_rules, missing_rules, information_rules}
 use Rattle.attempt.specs.Step.{on_datagram, on_outcome, on_processed, step_of, counts_fit, could_be_attempt}
 use Rattle.attempt.specs.declared.Attempt.{Attempt}
-use Rattle.attempt.specs.declared.Event.{Event}
-use Rattle.attempt.specs.declared.Event.TheVariants.{Datagram, PacketProcessed, Outcome}
+use Rattle.attempt.specs.Event.{Event, Event.Datagram, Event.PacketProcessed, Event.Outcome}
 use Rattle.attempt.proofs.Demand3.{start-accepted}
 use Rattle.attempt.proofs.Phases.{opened-reads}
 
@@ -77,8 +75,8 @@ module _ (P : Attempt → Type 0) (a : Attempt) (k : Keeps P a) where
   Held s = P s.attempt
 
   acted-keeps : (list : List ℕ) (o : Option ℕ) → preferred (table_of a) list ≡ o → Held (act_on a o)
-  acted-keeps list none e = k.closes 65 refl
-  acted-keeps list (some v) e = k.acts v (preferred-held (table_of a) list v e).0
+  acted-keeps list None e = k.closes 65 refl
+  acted-keeps list (Some v) e = k.acts v (preferred-held (table_of a) list v e).0
 
   -- an outcome, on an open attempt and on an ended one
   outcome-keeps : (b : Bool) (rules : List Rule) (u : ℕ) → numbers_pass rules ≡ true →

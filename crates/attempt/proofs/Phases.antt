@@ -3,7 +3,8 @@
 use Prim.Native.Nat.{ℕ}
 use mathlib.Core.Bool.{Bool, true, false, cond, not, ◌&&◌, not-not, and-true, and-false, or-true}
 use mathlib.Core.List.{List, [], ◌∷◌, ◌++◌}
-use mathlib.Core.Option.{Option, Option.none, Option.some, some-injective, none-ne-some}
+use Rattle.std.specs.Prelude.{Option, None, Some}
+use Rattle.std.proofs.lemmas.Option.{same_Some, none-some}
 use mathlib.Core.Path.{◌≡◌, refl, ap, ◌∙◌}
 use lib.Dec.{eqb}
 use lib.ListN.{length, drop, replicate}
@@ -16,8 +17,7 @@ use Rattle.versions.specs.Table.{elem}
 use Rattle.choosing.proofs.Laws.{preferred-held}
 use Rattle.invariants.specs.Header.{is_readable_negotiation, listed}
 use Rattle.information.specs.Information.{chosen_of, available_of, form_rules}
-use Rattle.information.specs.declared.Presence.{Presence}
-use Rattle.information.specs.declared.Presence.TheVariants.{Missing, Given}
+use Rattle.information.specs.Presence.{Presence, Presence.Missing, Presence.Given}
 use Rattle.attempt.specs.Attempt.{padded, table_of, own_of, is_open, is_completed, put}
 use Rattle.attempt.specs.Demand.{fits, acted_at, acted_with, VersionInformation, stand_in, information_read}
 use Rattle.attempt.specs.Events.{Handed, run}
@@ -27,8 +27,7 @@ use Rattle.attempt.specs.Step.{unchanged, closed, completed, step_of, on_datagra
 use Rattle.attempt.specs.declared.Attempt.{Attempt}
 use Rattle.attempt.specs.declared.End.{End}
 use Rattle.attempt.specs.declared.End.TheVariants as end
-use Rattle.attempt.specs.declared.Event.{Event}
-use Rattle.attempt.specs.declared.Event.TheVariants.{Datagram, PacketProcessed, Outcome}
+use Rattle.attempt.specs.Event.{Event, Event.Datagram, Event.PacketProcessed, Event.Outcome}
 use Rattle.attempt.proofs.OwnListFacts.{members-word, word-of-row}
 
 pub opened-reads : (x : Input) → Reads x (opened x)
@@ -110,8 +109,8 @@ ended-run a (e ∷ es) h =
 
 -- "Good", as a test
 abbrev pub is_good_information : Input → ℕ → ℕ → Option VersionInformation → Bool
-is_good_information x v u none = false
-is_good_information x v u (some i) =
+is_good_information x v u None = false
+is_good_information x v u (Some i) =
     elem i.chosen (our_list x v) &&
     (eqb i.chosen u &&
     (not (eqb (length i.available) 0) && picks (preferred x.table (i.available ++ (u ∷ []))) v))
@@ -135,7 +134,7 @@ completes-clear a u ((n when false) ∷ rs) = completes-clear a u rs
 
 -- 72 to 75 of an attempt that acted are what "good" asks of information that is well formed
 outcome-good : (x : Input) (v : ℕ) (a : Attempt) (u c : ℕ) (l : List ℕ) → Acted x v a →
-    clear (outcome_rules a u c l) ≡ is_good_information x v u (some (record { chosen = c; available = l }))
+    clear (outcome_rules a u c l) ≡ is_good_information x v u (Some (record { chosen = c; available = l }))
 unfolding own_of
 outcome-good x v a u c l s =
     rw (s.attempted, s.acted, s.reads.own v s.held, s.reads.table) (simp (not-not, and-true))
@@ -145,10 +144,10 @@ pub information-good : (x : Input) (v : ℕ) (a : Attempt) (u : ℕ) (p : Presen
 information-good x v a u Missing bytes s =
     ap (λ (b : Bool). clear (missing_rules b a u)) s.acted ∙
     ap (λ (b : Bool). not (not (eqb a.attempted 1)) && b) (outcome-good x v a u 1 (1 ∷ []) s) ∙
-    ap (λ (w : ℕ). not (not (eqb w 1)) && is_good_information x v u (some stand_in)) s.attempted ∙
+    ap (λ (w : ℕ). not (not (eqb w 1)) && is_good_information x v u (Some stand_in)) s.attempted ∙
     go (eqb v 1)
   where
-    go : (b : Bool) → (not (not b) && is_good_information x v u (some stand_in)) ≡ is_good_information x v u (cond b (some stand_in) none)
+    go : (b : Bool) → (not (not b) && is_good_information x v u (Some stand_in)) ≡ is_good_information x v u (cond b (Some stand_in) None)
     go true = refl
     go false = refl
 information-good x v a u Given bytes s =
@@ -159,7 +158,7 @@ information-good x v a u Given bytes s =
     i : VersionInformation
     i = record { chosen = chosen_of bytes; available = available_of bytes }
 
-    go : (b : Bool) → (b && is_good_information x v u (some i)) ≡ is_good_information x v u (cond b (some i) none)
+    go : (b : Bool) → (b && is_good_information x v u (Some i)) ≡ is_good_information x v u (cond b (Some i) None)
     go true = refl
     go false = refl
 
@@ -213,21 +212,21 @@ fresh-fits x a bytes s =
     rw (ap is_open s.open?, s.acted, s.heard, s.reads.destination, s.reads.source, s.reads.original)
 
 -- an attempt that acts on a packet of the list has completed exactly when the first outcome is good
-pub fresh-run : (x : Input) (v : ℕ) (a : Attempt) (es : List Handed) → Fresh x a → acted_with x es ≡ some v →
+pub fresh-run : (x : Input) (v : ℕ) (a : Attempt) (es : List Handed) → Fresh x a → acted_with x es ≡ Some v →
     is_completed (run a es).end ≡ first_is_good x v es
 unfolding run first_is_good acted_with step_of on_datagram
-fresh-run x v a [] s h = absurd (none-ne-some v h)
+fresh-run x v a [] s h = absurd (none-some v h)
 fresh-run x v a (e ∷ es) s h = go e.event h (λ b. fresh-run x v b es)
   where
     -- what the rest of the list does to an attempt that has not acted yet
     Later : Type 0
-    Later = (b : Attempt) → Fresh x b → acted_with x es ≡ some v → is_completed (run b es).end ≡ first_is_good x v es
+    Later = (b : Attempt) → Fresh x b → acted_with x es ≡ Some v → is_completed (run b es).end ≡ first_is_good x v es
 
-    acts-on : (o : Option ℕ) → preferred x.table (listed e.bytes) ≡ o → o ≡ some v →
+    acts-on : (o : Option ℕ) → preferred x.table (listed e.bytes) ≡ o → o ≡ Some v →
         is_completed (run (act_on a o).attempt es).end ≡ first_is_good x v es
-    acts-on none p q = absurd (none-ne-some v q)
-    acts-on (some w) p q =
-        let same : w ≡ v = some-injective w v q in
+    acts-on None p q = absurd (none-some v q)
+    acts-on (Some w) p q =
+        let same : w ≡ v = same_Some w v q in
         acted-run x v (put a w true a.heard a.end) es
         (record {
           reads = put_reads _ _ _ _ s.reads;
@@ -243,7 +242,7 @@ fresh-run x v a (e ∷ es) s h = go e.event h (λ b. fresh-run x v b es)
     act : After
     act = act_on a (preferred (table_of a) (listed e.bytes))
 
-    datagram : (b : Bool) → fits x e.bytes ≡ b → cond b (preferred x.table (listed e.bytes)) (acted_with x es) ≡ some v →
+    datagram : (b : Bool) → fits x e.bytes ≡ b → cond b (preferred x.table (listed e.bytes)) (acted_with x es) ≡ Some v →
         Later → is_completed (run (on_datagram a e.bytes).attempt es).end ≡ first_is_good x v es
     datagram true f q later =
         rw (lowest-clear (unchanged a) act rules (fresh-fits x a e.bytes s ∙ f), s.reads.table) (acts-on _ refl q)
@@ -251,8 +250,8 @@ fresh-run x v a (e ∷ es) s h = go e.event h (λ b. fresh-run x v b es)
         lowest-applies (unchanged a) act (λ r. is_completed (run r.attempt es).end ≡ first_is_good x v es)
         (λ n. later _ (fresh-unchanged n s) q) rules (fresh-fits x a e.bytes s ∙ f)
 
-    go : (ev : Event) → acted_at x ev e.bytes (acted_with x es) ≡ some v → Later →
+    go : (ev : Event) → acted_at x ev e.bytes (acted_with x es) ≡ Some v → Later →
         is_completed (run (step_of a ev e.bytes).attempt es).end ≡ is_good_at x v ev e.bytes (first_is_good x v es)
     go Datagram q later = datagram (fits x e.bytes) refl q later
-    go PacketProcessed q later = absurd (none-ne-some v q)
-    go (Outcome u p) q later = absurd (none-ne-some v q)
+    go PacketProcessed q later = absurd (none-some v q)
+    go (Outcome u p) q later = absurd (none-some v q)

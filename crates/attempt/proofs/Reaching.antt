@@ -7,7 +7,7 @@ use Rattle.attempt.specs.Journaled.{journaled_step}
 use Rattle.attempt.specs.Start.{start_of}
 use Rattle.attempt.specs.Step.{After, shown}
 use Rattle.attempt.specs.declared.Attempt.{Attempt}
-use Rattle.attempt.specs.declared.Event.{Event}
+use Rattle.attempt.specs.Event.{Event}
 use Rattle.attempt.specs.declared.Stepped.{Stepped}
 
 pub run-append : (a : Attempt) (es fs : List Handed) → journaled_run a (es ++ fs) ≡ journaled_run (journaled_run a es) fs

@@ -16,7 +16,7 @@ use Rattle.versions.proofs.Lists.{table-counts}
 use Rattle.versions.proofs.Members.{elem-where, members-held, length-members}
 use Rattle.versions.proofs.WithoutReserved.{table-not-zero, table-not-reserved, without-none}
 use Rattle.information.specs.Information.{chosen_of, available_of, form_rules}
-use Rattle.information.specs.declared.Presence.TheVariants.{Given}
+use Rattle.information.specs.Presence.{Presence.Given}
 use Rattle.attempt.specs.Attempt.{table_of, own_for, own_of, own_as_answered}
 use Rattle.attempt.specs.Events.{Reachable}
 use Rattle.attempt.specs.OwnList.{may_be_answered, own_list, word_of}
@@ -24,7 +24,7 @@ use Rattle.attempt.specs.Start.{Input, our_list, is_accepted, opened}
 use Rattle.attempt.specs.Step.{closed, completed, outcome_rules, step_of, counts_fit}
 use Rattle.attempt.specs.declared.Attempt.{Attempt}
 use Rattle.attempt.specs.declared.End.TheVariants as end
-use Rattle.attempt.specs.declared.Event.TheVariants.{Outcome}
+use Rattle.attempt.specs.Event.{Event.Outcome}
 use Rattle.attempt.proofs.Barred.{attempted-answered}
 use Rattle.attempt.proofs.Chosen.{attempt-keeps}
 use Rattle.attempt.proofs.Keeps.{Keeps, every-attempt, start-keeps, start-original, reachable-passes}

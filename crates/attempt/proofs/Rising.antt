@@ -5,8 +5,7 @@ use mathlib.Core.Bool.{Bool, true, false}
 use mathlib.Core.List.{List, [], ◌∷◌, ◌++◌}
 use mathlib.Core.Path.{◌≡◌, refl}
 use Rattle.refusals.specs.Rule.{Rule.◌when◌, rising}
-use Rattle.information.specs.declared.Presence.{Presence}
-use Rattle.information.specs.declared.Presence.TheVariants.{Missing, Given}
+use Rattle.information.specs.Presence.{Presence, Presence.Missing, Presence.Given}
 use Rattle.attempt.specs.Start.{Input, start_rules}
 use Rattle.attempt.specs.Step.{datagram_rules, outcome_rules, missing_rules, information_rules}
 use Rattle.attempt.specs.declared.Attempt.{Attempt}

@@ -3,22 +3,20 @@
 use Prim.Native.Nat.{ℕ}
 use mathlib.Core.Bool.{Bool, true, false, cond, not}
 use mathlib.Core.List.{List, [], ◌∷◌}
-use mathlib.Core.Option.{Option, Option.none, Option.some}
+use Rattle.std.specs.Prelude.{Option, None, Some}
 use mathlib.Core.Path.{◌≡◌, refl, sym, ap, ◌∙◌}
 use Rattle.refusals.specs.Rule.{Rule, Rule.◌when◌, lowest}
 use Rattle.journal.specs.declared.Journal.{Journal}
 use Rattle.choosing.specs.Choice.{preferred}
 use Rattle.invariants.specs.Header.{listed}
-use Rattle.information.specs.declared.Presence.{Presence}
-use Rattle.information.specs.declared.Presence.TheVariants.{Missing, Given}
+use Rattle.information.specs.Presence.{Presence, Presence.Missing, Presence.Given}
 use Rattle.attempt.specs.Attempt.{table_of, own_of, is_open, put, with_journal}
 use Rattle.attempt.specs.Events.{Handed, run, journaled_run}
 use Rattle.attempt.specs.Journaled.{journaled_step}
 use Rattle.attempt.specs.Step.{After, Effect.notes, after, unchanged, closed, completed, act_on}
 use Rattle.attempt.specs.Step.{datagram_rules, missing_rules, information_rules, step_of, on_datagram, on_processed, on_outcome}
 use Rattle.attempt.specs.declared.Attempt.{Attempt}
-use Rattle.attempt.specs.declared.Event.{Event}
-use Rattle.attempt.specs.declared.Event.TheVariants.{Datagram, PacketProcessed, Outcome}
+use Rattle.attempt.specs.Event.{Event, Event.Datagram, Event.PacketProcessed, Event.Outcome}
 
 abbrev handed_on : Journal → After → After
 handed_on j s = record { attempt = with_journal s.attempt j; reply = s.reply }
@@ -33,8 +31,8 @@ module _ (j : Journal) (a : Attempt) where
       lowest-on refusal refusal' each rules other other' last
 
   acts-on : (o : Option ℕ) → act_on (with_journal a j) o ≡ handed_on j (act_on a o)
-  acts-on none = refl
-  acts-on (some v) = refl
+  acts-on None = refl
+  acts-on (Some v) = refl
 
   ends_on : (open? : Bool) (rules : List Rule) (u : ℕ) →
       cond open? (lowest (closed (with_journal a j)) rules (completed (with_journal a j) u)) (unchanged (with_journal a j) 62) ≡

@@ -1,18 +1,18 @@
 -- Walks over a table: the word of a version at its first place, and what a walk from set bit to set bit has collected.
 use Prim.Native.Nat.{ℕ, zero, suc, ◌+◌, ◌-◌, ◌≤◌, ◌<◌, min}
-use mathlib.Core.Bool.{Bool, true, false, cond}
+use mathlib.Core.Bool.{true}
 use mathlib.Core.List.{List, [], ◌∷◌, ◌++◌, append-nil}
 use mathlib.Core.Path.{◌≡◌, refl, sym, ap, ◌∙◌}
 use native.Mathlib.Nat.{suc-min-suc, zero-min}
 use native.Mathlib.Omega.{arith}
 use lib.Bits.{bit_and}
 use lib.Count.{count_trailing_zeros}
-use lib.Dec.{eqb}
-use lib.ListN.{length, take, get_or, set, length-append}
+use lib.ListN.{length, take, drop, get_or, set, length-append, drop_of_length-le}
 use lib.Seq.{append_snoc, take-nil}
 use borrow.Author.Tests.{eq-eqb, ne_eqb}
-use Rattle.versions.specs.Table.{elem, place_of}
+use Rattle.versions.specs.Table.{elem}
 use Rattle.versions.specs.Words.{members}
+use Rattle.versions.proofs.Lists.{drop-next}
 use Rattle.versions.proofs.Members.{length-members, cleared, members-first, members-none}
 use Rattle.attempt.specs.Attempt.{over}
 use Rattle.attempt.specs.OwnList.{word_of}
@@ -24,29 +24,28 @@ take-cut [] count = rw (take-nil {A = ℕ} (min count 0), take-nil {A = ℕ} cou
 take-cut (x ∷ xs) zero = rw (zero-min (suc (length xs)))
 take-cut (x ∷ xs) (suc count) = rw (suc-min-suc count (length xs)) (ap (λ (l : List ℕ). x ∷ l) (take-cut xs count))
 
--- The word of a version, at its first place
-pub word_at : (xs rows : List ℕ) (v : ℕ) → place_of v xs < length xs → word_of xs rows v ≡ get_or rows (place_of v xs) 0
-unfolding word_of place_of
-word_at [] rows v h = absurd (omega arith)
-word_at (x ∷ xs) [] v h = refl
-word_at (x ∷ xs) (w ∷ rows) v h = go (eqb x v) h (word_at xs rows v)
-  where
-    go : (b : Bool) → cond b 0 (suc (place_of v xs)) < suc (length xs) →
-        (place_of v xs < length xs → word_of xs rows v ≡ get_or rows (place_of v xs) 0) →
-        cond b w (word_of xs rows v) ≡ get_or (w ∷ rows) (cond b 0 (suc (place_of v xs))) 0
-    go true h ih = refl
-    go false h ih = ih (omega arith)
+-- The word of a version: what is left of table and words answers for the whole
+module _ (v : ℕ) (xs rows : List ℕ) (i : ℕ) where
+  pub word_here : i < length xs → i < length rows → get_or xs i 0 ≡ v → word_of (drop i xs) (drop i rows) v ≡ get_or rows i 0
+  unfolding word_of
+  word_here h k e = rw (drop-next xs i 0 h, drop-next rows i 0 k, eq-eqb _ _ e)
 
-pub word-nowhere : (xs rows : List ℕ) (v : ℕ) → length xs ≤ place_of v xs → word_of xs rows v ≡ 0
-unfolding word_of place_of
-word-nowhere [] rows v h = refl
-word-nowhere (x ∷ xs) [] v h = refl
-word-nowhere (x ∷ xs) (w ∷ rows) v h = go (eqb x v) h (word-nowhere xs rows v)
-  where
-    go : (b : Bool) → suc (length xs) ≤ cond b 0 (suc (place_of v xs)) → (length xs ≤ place_of v xs → word_of xs rows v ≡ 0) →
-        cond b w (word_of xs rows v) ≡ 0
-    go true h ih = absurd (omega arith)
-    go false h ih = ih (omega arith)
+  pub word_next : i < length xs → i < length rows → (get_or xs i 0 ≡ v → ⊥) →
+      word_of (drop i xs) (drop i rows) v ≡ word_of (drop (i + 1) xs) (drop (i + 1) rows) v
+  unfolding word_of
+  word_next h k e = rw (drop-next xs i 0 h, drop-next rows i 0 k, ne_eqb _ _ e)
+
+pub no_words : (v : ℕ) (xs : List ℕ) → word_of xs [] v ≡ 0
+unfolding word_of
+no_words v [] = refl
+no_words v (x ∷ xs) = refl
+
+pub word_end : (v : ℕ) (xs rows : List ℕ) (i : ℕ) → i ≡ min (length xs) (length rows) → word_of (drop i xs) (drop i rows) v ≡ 0
+unfolding word_of
+word_end v [] rows i h = rw (drop_of_length-le {A = ℕ} [] {i = i} (omega (arith, h))) refl
+word_end v (x ∷ xs) [] i h = rw (drop_of_length-le {A = ℕ} [] {i = i} (omega (arith, h))) (no_words v (drop i (x ∷ xs)))
+word_end v (x ∷ xs) (w ∷ rows) zero h = absurd (omega (arith, h))
+word_end v (x ∷ xs) (w ∷ rows) (suc i) h = word_end v xs rows i (omega (arith, h))
 
 -- The first of a list is the version, or it is not
 pub first-is : (v x : ℕ) (xs : List ℕ) → x ≡ v → elem v (x ∷ xs) ≡ true

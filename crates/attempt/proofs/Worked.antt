@@ -18,8 +18,8 @@ use Rattle.invariants.specs.Header.{is_readable_negotiation}
 use Rattle.journal.specs.Journals.{last_answers, journal_of, note_of}
 use Rattle.journal.proofs.Notes.{journal}
 use Rattle.information.specs.Information.{information_bytes}
-use Rattle.information.specs.declared.Presence.TheVariants.{Missing, Given}
-use Rattle.attempt.specs.Attempt.{padded, own_of, is_completed}
+use Rattle.information.specs.Presence.{Presence.Missing, Presence.Given}
+use Rattle.attempt.specs.Attempt.{padded, own_of, closed_with, is_completed}
 use Rattle.attempt.specs.Demand.{acted_with, first_outcome, CompletedAgainst, JournaledCompletedAgainst}
 use Rattle.attempt.specs.Events.{Handed, run, journaled_run}
 use Rattle.attempt.specs.Journaled.{journaled_step, journaled_step_of_any}
@@ -29,8 +29,8 @@ use Rattle.attempt.specs.Start.{Input, input_of, start_of, opened, blank}
 use Rattle.attempt.specs.Step.{Effect, Effect.acts, Effect.completes, unchanged, step_of, on_datagram, on_processed, on_outcome, same}
 use Rattle.attempt.specs.declared.Attempt.{Attempt}
 use Rattle.attempt.specs.declared.End.{End}
-use Rattle.attempt.specs.declared.End.TheVariants.{Completed, Closed, Open}
-use Rattle.attempt.specs.declared.Event.TheVariants.{Datagram, PacketProcessed, Outcome}
+use Rattle.attempt.specs.declared.End.TheVariants.{Completed, Open}
+use Rattle.attempt.specs.Event.{Event.Datagram, Event.PacketProcessed, Event.Outcome}
 use Rattle.attempt.proofs.Unread.{same_end}
 
 -- What a case shows: a choice from a list, or the answers to the events with the record after them
@@ -106,10 +106,10 @@ cases =
     (went (answered (acts 14) ∷ answered (completes 14) ∷ []) 14 (14 ∷ []) (Completed 14)) ∷
     p 5
     (attempt (start three [] 12) (packet (10 ∷ 13 ∷ []) ∷ outcome 10 10 (10 ∷ 13 ∷ 14 ∷ []) ∷ []))
-    (went (answered (acts 10) ∷ refuse Reading 75 ∷ []) 10 (10 ∷ []) (Closed 75)) ∷
+    (went (answered (acts 10) ∷ refuse Reading 75 ∷ []) 10 (10 ∷ []) (closed_with 75)) ∷
     p 6
     (attempt (start three [] 12) (packet (10 ∷ 13 ∷ 14 ∷ []) ∷ outcome 14 14 [] ∷ []))
-    (went (answered (acts 14) ∷ refuse Reading 74 ∷ []) 14 (14 ∷ []) (Closed 74)) ∷
+    (went (answered (acts 14) ∷ refuse Reading 74 ∷ []) 14 (14 ∷ []) (closed_with 74)) ∷
     p 7
     (attempt (start three [] 12) (packet (12 ∷ 14 ∷ []) ∷ []))
     (went (refuse Reading 64 ∷ []) 12 (12 ∷ []) Open) ∷
@@ -118,16 +118,16 @@ cases =
     (went (answered (acts 1) ∷ answered (completes 1) ∷ []) 1 (1 ∷ []) (Completed 1)) ∷
     p 9
     (attempt (start (14 ∷ 10 ∷ []) [] 14) (packet (10 ∷ []) ∷ missing 10 ∷ []))
-    (went (answered (acts 10) ∷ refuse Reading 71 ∷ []) 10 (10 ∷ []) (Closed 71)) ∷
+    (went (answered (acts 10) ∷ refuse Reading 71 ∷ []) 10 (10 ∷ []) (closed_with 71)) ∷
     p 10
     (attempt four (packet (4 ∷ 3 ∷ []) ∷ outcome 4 4 (4 ∷ 3 ∷ []) ∷ []))
     (went (answered (acts 3) ∷ answered (completes 4) ∷ []) 3 (3 ∷ 4 ∷ []) (Completed 4)) ∷
     p 11
     (attempt four (packet (4 ∷ 3 ∷ []) ∷ outcome 4 4 (4 ∷ []) ∷ []))
-    (went (answered (acts 3) ∷ refuse Reading 75 ∷ []) 3 (3 ∷ 4 ∷ []) (Closed 75)) ∷
+    (went (answered (acts 3) ∷ refuse Reading 75 ∷ []) 3 (3 ∷ 4 ∷ []) (closed_with 75)) ∷
     p 12
     (attempt four (packet (4 ∷ 3 ∷ []) ∷ outcome 2 2 (4 ∷ 3 ∷ []) ∷ []))
-    (went (answered (acts 3) ∷ refuse Reading 72 ∷ []) 3 (3 ∷ 4 ∷ []) (Closed 72)) ∷
+    (went (answered (acts 3) ∷ refuse Reading 72 ∷ []) 3 (3 ∷ 4 ∷ []) (closed_with 72)) ∷
     []
 
 -- P4 with refused events around: a datagram that is no Version Negotiation packet (61), one for another connection (63:
@@ -210,7 +210,7 @@ ten-barring bs =
 
 -- 3 to 4 is barred: the own list is 3, and Chosen 4 is a 72
 ten-left-out : Shown
-ten-left-out = went (answered (acts 3) ∷ refuse Reading 72 ∷ []) 3 (3 ∷ []) (Closed 72)
+ten-left-out = went (answered (acts 3) ∷ refuse Reading 72 ∷ []) 3 (3 ∷ []) (closed_with 72)
 
 -- It stands with nothing barred. It stands with 3 to 4 turned round; with 4 barred from 1, the Original Version; with 3 to
 -- 1 and 1 to 4, which make no 3 to 4; and with a pair that is not there. A repeated pair bars as it does alone

@@ -2,7 +2,7 @@
 -- a place the caller gives"; "Places are counted from 0 in the list as sent." One that is given is a list of two numbers:
 -- the reserved number, and its place.
 use Rattle.std.specs.Prelude.{ℕ, zero, suc, ◌+◌, Bool, true, false, cond, not, ◌&&◌, ◌||◌, List, [], ◌∷◌, eqb, leb, ltb, length, get_or, drop}
-use Rattle.std.proofs.Math.Option.{Option, Option.none, Option.some}
+use Rattle.std.specs.Prelude.{Option, None, Some}
 use Rattle.versions.specs.Limits.{max_reserved}
 use Rattle.versions.specs.Version.{reserved}
 
@@ -14,18 +14,18 @@ place_in one = get_or one 1 0
 
 -- The number that is given for a place, if there is one
 unfoldable pub given_for : List (List ℕ) → ℕ → Option ℕ
-given_for [] place = none
-given_for (one ∷ given) place = cond (eqb (place_in one) place) (some (number_in one)) (given_for given place)
+given_for [] place = None
+given_for (one ∷ given) place = cond (eqb (place_in one) place) (Some (number_in one)) (given_for given place)
 
 -- What stands at a place: the number that is given for it, else the next version of the own list
 abbrev pub sent_at : Option ℕ → List ℕ → ℕ
-sent_at (some number) own = number
-sent_at none own = get_or own 0 0
+sent_at (Some number) own = number
+sent_at None own = get_or own 0 0
 
 -- The own list from there on
 abbrev pub own_after : Option ℕ → List ℕ → List ℕ
-own_after (some number) own = own
-own_after none own = drop 1 own
+own_after (Some number) own = own
+own_after None own = drop 1 own
 
 -- The list from a place on, so many entries of it
 unfoldable pub sent_from : ℕ → ℕ → List ℕ → List (List ℕ) → List ℕ

@@ -54,16 +54,20 @@ list_in_places vs = record { versions = padded max_table vs; count = length vs }
 abbrev pub own_list_of : Attempt → OwnList
 own_list_of a = list_in_places (own_of a)
 
+-- Closed with the refusal of a number
+abbrev pub closed_with : ℕ → End
+closed_with n = Closed (record { 0 = n })
+
 abbrev pub is_open : End → Bool
 is_open Open = true
 is_open (Completed v) = false
-is_open (Closed n) = false
+is_open (Closed r) = false
 
 -- "the end mark of the record .., which tells completed from closed"
 abbrev pub is_completed : End → Bool
 is_completed Open = false
 is_completed (Completed v) = true
-is_completed (Closed n) = false
+is_completed (Closed r) = false
 
 -- The record with the fields that document 01 lets an event change; every other field stays
 abbrev pub put : Attempt → ℕ → Bool → Bool → End → Attempt

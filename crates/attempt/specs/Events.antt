@@ -6,7 +6,7 @@ use Rattle.attempt.specs.Journaled.{journaled_step}
 use Rattle.attempt.specs.Start.{Input, is_accepted, start_of}
 use Rattle.attempt.specs.Step.{step_of}
 use Rattle.attempt.specs.declared.Attempt.{Attempt}
-use Rattle.attempt.specs.declared.Event.{Event}
+use Rattle.attempt.specs.Event.{Event}
 
 -- An event with its bytes: the datagram, or the Version Information that is given
 pub record Handed : Type 0 where

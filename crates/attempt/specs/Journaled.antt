@@ -9,7 +9,7 @@ use Rattle.attempt.specs.Attempt.{with_journal}
 use Rattle.attempt.specs.Limits.{not_a_record}
 use Rattle.attempt.specs.Step.{After, step_of, could_be_attempt, unchanged}
 use Rattle.attempt.specs.declared.Attempt.{Attempt}
-use Rattle.attempt.specs.declared.Event.{Event}
+use Rattle.attempt.specs.Event.{Event}
 
 -- What an event did, then its answer is noted: the number of its refusal, "0: no refusal" (`refusal_of`)
 abbrev pub journaled : After → After

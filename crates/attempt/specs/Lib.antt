@@ -1,6 +1,7 @@
 pub mod AsSent
 pub mod Attempt
 pub mod Demand
+pub mod Event
 pub mod Events
 pub mod Journaled
 pub mod Limits

@@ -1,20 +1,18 @@
 -- The start of an attempt.
-use Rattle.std.specs.Prelude.{ℕ, Bool, true, false, not, ◌||◌, List, [], ◌∷◌, ◌≡◌, ltb, length, replicate}
+use Rattle.std.specs.Prelude.{ℕ, Bool, true, false, not, ◌||◌, List, [], ◌∷◌, ◌≡◌, ltb, length, replicate, Result, Ok, Err}
 use Rattle.refusals.specs.Reply.{Reply, Reply.answered, refuse}
 use Rattle.refusals.specs.Rule.{Rule, Rule.◌when◌, lowest, clear}
 use Rattle.refusals.specs.declared.Call.TheVariants.{Reading}
+use Rattle.refusals.specs.declared.Refusal.{Refusal}
 use Rattle.journal.specs.Journals.{journal_of}
 use Rattle.versions.specs.Limits.{max_table}
 use Rattle.versions.specs.Pairs.{pairs_keep_rule}
 use Rattle.versions.specs.Table.{elem, table_keeps_rule}
-use Rattle.attempt.specs.Attempt.{padded, table_of, destination_of, source_of, own_for}
+use Rattle.attempt.specs.Attempt.{padded, table_of, destination_of, source_of, own_for, closed_with}
 use Rattle.attempt.specs.Limits.{max_id}
 use Rattle.attempt.specs.OwnList.{own_list, rows_for}
 use Rattle.attempt.specs.declared.Attempt.{Attempt}
-use Rattle.attempt.specs.declared.End.TheVariants.{Open, Closed}
-use Rattle.attempt.specs.declared.StartAnswer.{StartAnswer}
-use Rattle.attempt.specs.declared.StartAnswer.TheVariants.{Refused, Opened}
-use Rattle.attempt.specs.declared.Started.{Started}
+use Rattle.attempt.specs.declared.End.TheVariants.{Open}
 
 -- "An attempt starts with a table, pairs, an Original Version and its two connection IDs, destination and source".
 -- Document 02, C-17: "A start takes, beside the pairs, a list of pairs barred for this attempt's flights"
@@ -76,8 +74,8 @@ pub record Reads (x : Input) (a : Attempt) : Type 0 where
   pub original : a.original ≡ x.original
   pub own : (v : ℕ) → elem v x.table ≡ true → own_for a v ≡ our_list x v
 
--- The record that a refused start hands back. It is no attempt: no table is empty, and no attempt is closed with 0. Its
--- journal is that of no events too
+-- The record that stands for a refused start, which hands none back. It is no attempt: no table is empty, and no attempt is
+-- closed with 0. Its journal is that of no events too
 unfoldable pub blank : Attempt
 blank =
     record {
@@ -92,7 +90,7 @@ blank =
       attempted = 0;
       acted = false;
       heard = false;
-      end = Closed 0;
+      end = closed_with 0;
       journal = journal_of [];
     }
 
@@ -100,21 +98,18 @@ blank =
 pub data Nothing : Type 0 where
   nothing : Nothing
 
--- The cases of `StartAnswer`
-abbrev pub start_reply : StartAnswer → Reply Nothing
-start_reply (Refused r) = refuse Reading r.0
-start_reply Opened = answered nothing
-
 -- What a start hands back: the record and the answer
 pub record Start : Type 0 where
   pub attempt : Attempt
   pub reply : Reply Nothing
 
-abbrev pub shown_start : Started → Start
-shown_start s = record { attempt = s.attempt; reply = start_reply s.answer }
-
 abbrev pub refused_start : ℕ → Start
 refused_start n = record { attempt = blank; reply = refuse Reading n }
+
+-- The result of a start, as the record and the answer; a refusal goes with the blank record
+abbrev pub shown_start : Result Attempt Refusal → Start
+shown_start (Ok a) = record { attempt = a; reply = answered nothing }
+shown_start (Err r) = refused_start r.0
 
 abbrev pub opened_start : Input → Start
 opened_start x = record { attempt = opened x; reply = answered nothing }

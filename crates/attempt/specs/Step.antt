@@ -1,24 +1,23 @@
 -- Document 01, "By the console": what an event does to an attempt, and what it answers.
 use Rattle.std.specs.Prelude.{ℕ, Bool, true, false, cond, not, ◌&&◌, ◌||◌, List, [], ◌∷◌, ◌++◌, eqb, leb, length}
-use Rattle.std.proofs.Math.Option.{Option, Option.none, Option.some}
+use Rattle.std.specs.Prelude.{Option, None, Some, Result, Ok, Err}
 use Rattle.refusals.specs.Reply.{Reply, Reply.answered, refuse}
 use Rattle.refusals.specs.Rule.{Rule, Rule.◌when◌, lowest}
 use Rattle.refusals.specs.declared.Call.TheVariants.{Reading}
+use Rattle.refusals.specs.declared.Refusal.{Refusal}
 use Rattle.choosing.specs.Choice.{preferred}
 use Rattle.versions.specs.Limits.{max_table}
 use Rattle.versions.specs.Table.{elem}
 use Rattle.invariants.specs.Header.{is_readable_negotiation, destination_id, source_id, listed}
 use Rattle.information.specs.Information.{chosen_of, available_of, form_rules}
-use Rattle.information.specs.declared.Presence.{Presence}
-use Rattle.information.specs.declared.Presence.TheVariants.{Missing, Given}
-use Rattle.attempt.specs.Attempt.{table_of, destination_of, source_of, own_as_answered, is_open, put, ended}
+use Rattle.information.specs.Presence.{Presence, Presence.Missing, Presence.Given}
+use Rattle.attempt.specs.Attempt.{table_of, destination_of, source_of, own_as_answered, closed_with, is_open, put, ended}
 use Rattle.attempt.specs.Limits.{max_id, not_a_record}
 use Rattle.attempt.specs.declared.Answer.{Answer}
 use Rattle.attempt.specs.declared.Answer.TheVariants as answer
 use Rattle.attempt.specs.declared.Attempt.{Attempt}
 use Rattle.attempt.specs.declared.End.TheVariants as end
-use Rattle.attempt.specs.declared.Event.{Event}
-use Rattle.attempt.specs.declared.Event.TheVariants.{Datagram, PacketProcessed, Outcome}
+use Rattle.attempt.specs.Event.{Event, Event.Datagram, Event.PacketProcessed, Event.Outcome}
 use Rattle.attempt.specs.declared.Stepped.{Stepped}
 
 -- The answers that are no refusal
@@ -27,12 +26,12 @@ pub data Effect : Type 0 where
   notes : Effect
   completes : ℕ → Effect
 
--- The cases of `Answer`
-abbrev pub answer_reply : Answer → Reply Effect
-answer_reply (answer.Refused r) = refuse Reading r.0
-answer_reply (answer.Acted v) = answered (acts v)
-answer_reply answer.Noted = answered notes
-answer_reply (answer.Completed v) = answered (completes v)
+-- The cases of an event's answer
+abbrev pub answer_reply : Result Answer Refusal → Reply Effect
+answer_reply (Err r) = refuse Reading r.0
+answer_reply (Ok (answer.Acted v)) = answered (acts v)
+answer_reply (Ok answer.Noted) = answered notes
+answer_reply (Ok (answer.Completed v)) = answered (completes v)
 
 -- What a step hands back: the record and the answer
 pub record After : Type 0 where
@@ -51,7 +50,7 @@ unchanged a n = record { attempt = a; reply = refuse Reading n }
 
 -- A refusal that ends the attempt
 abbrev pub closed : Attempt → ℕ → After
-closed a n = record { attempt = ended a (end.Closed n); reply = refuse Reading n }
+closed a n = record { attempt = ended a (closed_with n); reply = refuse Reading n }
 
 -- The attempt has completed with the version in use
 abbrev pub completed : Attempt → ℕ → After
@@ -85,8 +84,8 @@ datagram_rules a datagram =
 -- "or ended with 65; or it acts: the attempted version becomes the choice from the packet's list, and its own list
 -- follows"
 abbrev pub act_on : Attempt → Option ℕ → After
-act_on a none = closed a 65
-act_on a (some v) = after (put a v true a.heard a.end) (acts v)
+act_on a None = closed a 65
+act_on a (Some v) = after (put a v true a.heard a.end) (acts v)
 
 unfoldable pub on_datagram : Attempt → List ℕ → After
 on_datagram a datagram =
@@ -100,8 +99,8 @@ on_processed a =
 
 -- The choice is the version
 abbrev pub picks : Option ℕ → ℕ → Bool
-picks none v = false
-picks (some w) v = eqb w v
+picks None v = false
+picks (Some w) v = eqb w v
 
 -- 72 to 75, for the information read. "The choice made again at the outcome doesn't apply rule 64 a second time."
 -- Document 02, C-18: rule 72 reads the own list as may be answered, "so a reserved Chosen falls under 72"

@@ -4,7 +4,6 @@
 
 pub mod own; // the own list of an attempt
 
-use information::Presence;
 use journal::Journal;
 use refusals::Refusal;
 use versions::MAX_TABLE;
@@ -21,12 +20,13 @@ pub enum End {
     Open,
     // Completed with the version in use.
     Completed(u32),
-    // Closed with document 01's number: 31 to 35, 65, 71 to 75.
-    Closed(u8),
+    // Closed with a refusal: 31 to 35, 65, 71 to 75.
+    Closed(Refusal),
 }
 
 // The record of one attempt (document 01's term). It is what a start handed back, changed since by
-// events alone. Places past a count are 0.
+// events alone. Places past a count are 0. The arrays have counts beside them and are no slices: the record is plain memory
+// that a host keeps and copies, with no heap, and a record of any shape is answered (`step_any`).
 #[derive(Clone, Copy)]
 pub struct Attempt {
     // The table of versions, best first.
@@ -54,35 +54,23 @@ pub struct Attempt {
     pub journal: Journal,
 }
 
-// What a start answers beside the record: a refusal (41, 43, 44, 45), or that the attempt is open.
-#[derive(Drop)]
-pub enum StartAnswer {
-    Refused(Refusal),
-    Opened,
-}
-
-// What a start hands back. On a refusal the record is the blank one, which is no attempt.
-#[derive(Drop)]
-pub struct Started {
-    pub attempt: Attempt,
-    pub answer: StartAnswer,
-}
-
-// What happens to an attempt. The bytes of a datagram or of Version Information are handed beside it.
-#[derive(Drop)]
-pub enum Event {
+// What happens to an attempt.
+#[derive(Clone, Copy)]
+pub enum Event<'a> {
     // A datagram came.
-    Datagram,
+    Datagram(&'a [u8]),
     // A genuine packet other than Version Negotiation was processed (document 01's "heard").
     PacketProcessed,
-    // The handshake ended with this version in use; its Version Information is authenticated.
-    Outcome { in_use: u32, information: Presence },
+    // The handshake ended with this version in use, and with Version Information, which is authenticated, or without.
+    Outcome {
+        in_use: u32,
+        information: Option<&'a [u8]>,
+    },
 }
 
-// What an event answers.
-#[derive(Drop)]
+// What an event answers that is not refused.
+#[derive(Clone, Copy)]
 pub enum Answer {
-    Refused(Refusal),
     // The attempt acted on a Version Negotiation packet: attempt this version now.
     Acted(u32),
     // Noted: later Version Negotiation packets are ignored.
@@ -91,15 +79,16 @@ pub enum Answer {
     Completed(u32),
 }
 
-// What a step hands back.
+// What a step hands back: the record, whatever the answer is.
 #[derive(Drop)]
 pub struct Stepped {
     pub attempt: Attempt,
-    pub answer: Answer,
+    pub answer: Result<Answer, Refusal>,
 }
 
 // The own list of an attempt (document 01's term): every table entry that is the attempted version, or is
-// paired from it by a pair that is not barred, in table order. Places past the count are 0.
+// paired from it by a pair that is not barred, in table order. Places past the count are 0. An array beside a count, since
+// there is no heap.
 #[derive(Drop)]
 pub struct OwnList {
     pub versions: [u32; MAX_TABLE],

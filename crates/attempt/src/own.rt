@@ -1,6 +1,6 @@
 // The own list of an attempt: every table entry that is the attempted version, or is paired from it by a pair that is not
 // barred.
-ghost use Rattle.std.specs.Prelude.{◌≡◌, min, length, take};
+ghost use Rattle.std.specs.Prelude.{◌≡◌, length, take};
 ghost use Rattle.versions.specs.Limits.{max_table};
 ghost use Rattle.versions.specs.Table.{elem};
 ghost use Rattle.versions.specs.Words.{members};
@@ -9,7 +9,6 @@ ghost use Rattle.attempt.specs.OwnList.{own_in, word_of};
 
 use crate::{Attempt, OwnList};
 use versions::MAX_TABLE;
-use versions::table::place_of;
 
 // The own list of an attempt, for any record value. It refuses nothing; a count past the table's array counts
 // as the whole array.
@@ -18,7 +17,7 @@ pub fn own_list(attempt: Attempt) -> OwnList
 {
     let table = attempt.table;
     let rows = attempt.rows;
-    let count = cut(attempt.table_len, MAX_TABLE);
+    let count = attempt.table_len.min(MAX_TABLE);
     let word = word_of(&table[..count], &rows, attempt.attempted);
     let mut versions = [0u32; MAX_TABLE];
     let found = put_members(&table[..count], word, &mut versions);
@@ -35,18 +34,20 @@ pub fn put_members(table: &[u32], word: u64, places: &mut [u32; MAX_TABLE]) -> u
     ensures counted { result ≡ length (members word (take max_table table.now)) }
     ensures left { places.new ≡ over (members word (take max_table table.now)) places.old }
 {
-    let count = cut(table.len(), room_of(*places));
+    let count = table.len().min(room_of(*places));
     let mut found = 0;
     let mut rest = word;
+    // No index is counted here: each turn goes to the next set bit, so that unset ones cost nothing.
     while 0 < rest {
-        let lowest = u64::trailing_zeros(rest) as usize;
+        // (`as`: Rust has no From between these widths; that the value fits is proved.)
+        let lowest = rest.trailing_zeros() as usize;
         if count <= lowest {
             return found;
         }
         places[found] = table[lowest];
         found += 1;
         // Without its lowest bit.
-        rest = rest & (rest - 1);
+        rest &= rest - 1;
     }
     found
 }
@@ -58,16 +59,6 @@ fn room_of(places: [u32; MAX_TABLE]) -> usize
     ensures counted { result ≡ length places }
 {
     MAX_TABLE
-}
-
-// A count, cut to the places that there are.
-fn cut(count: usize, room: usize) -> usize
-    ensures { result ≡ min count room }
-{
-    if room < count {
-        return room;
-    }
-    count
 }
 
 // Whether a version is in the own list for an attempted one, read from a table and the words of its entries. It
@@ -84,15 +75,13 @@ fn is_member(table: &[u32], word: u64, version: u32) -> bool
     ensures { result ≡ elem version (members word table.now) }
 {
     let mut rest = word;
-    let mut i = 0;
-    while i < table.len() {
+    for entry in table {
         if rest % 2 == 1 {
-            if table[i] == version {
+            if *entry == version {
                 return true;
             }
         }
-        rest = rest / 2;
-        i += 1;
+        rest /= 2;
     }
     false
 }
@@ -101,12 +90,10 @@ fn is_member(table: &[u32], word: u64, version: u32) -> bool
 fn word_of<'a>(table: &'a [u32], rows: &'a [u64], version: u32) -> u64
     ensures { result ≡ word_of table.now rows.now version }
 {
-    let place = place_of(table, version);
-    if table.len() <= place {
-        return 0;
+    for (entry, word) in table.iter().zip(rows) {
+        if *entry == version {
+            return *word;
+        }
     }
-    if rows.len() <= place {
-        return 0;
-    }
-    rows[place]
+    0
 }

@@ -2,7 +2,7 @@
 use Prim.Native.Nat.{ℕ}
 use mathlib.Core.Bool.{true, false, or-true, false≢true}
 use mathlib.Core.List.{List, [], ◌∷◌}
-use mathlib.Core.Option.{Option.none, Option.some}
+use Rattle.std.specs.Prelude.{None, Some}
 use mathlib.Core.Path.{◌≡◌, refl, sym, ap, subst, ◌∙◌}
 use borrow.Author.Tests.{not-true}
 use Rattle.refusals.specs.Reply.{Reply.answered, refuse}
@@ -12,7 +12,7 @@ use Rattle.journal.specs.declared.Journal.{Journal}
 use Rattle.choosing.specs.Choice.{preferred}
 use Rattle.choosing.proofs.Laws.{preferred-held}
 use Rattle.invariants.specs.Header.{listed}
-use Rattle.attempt.specs.Attempt.{table_of, is_open, with_journal}
+use Rattle.attempt.specs.Attempt.{table_of, closed_with, is_open, with_journal}
 use Rattle.attempt.specs.Demand.{fits}
 use Rattle.attempt.specs.Events.{Handed, journaled_run, Reachable}
 use Rattle.attempt.specs.Journaled.{journaled, journaled_step}
@@ -20,8 +20,7 @@ use Rattle.attempt.specs.Start.{Input, Reads, is_accepted, start_of}
 use Rattle.attempt.specs.Step.{Effect.acts, datagram_rules, unchanged, act_on, step_of, on_datagram}
 use Rattle.attempt.specs.declared.Attempt.{Attempt}
 use Rattle.attempt.specs.declared.End.TheVariants as end
-use Rattle.attempt.specs.declared.Event.{Event}
-use Rattle.attempt.specs.declared.Event.TheVariants.{Datagram, PacketProcessed, Outcome}
+use Rattle.attempt.specs.Event.{Event, Event.Datagram, Event.PacketProcessed, Event.Outcome}
 use Rattle.attempt.proofs.Demand3.{start-accepted, opened-fresh}
 use Rattle.attempt.proofs.Phases.{Fresh, Acted, put_reads, fresh-unchanged, acted-unchanged, late-datagram, fresh-fits, acted-processed, ended-run}
 use Rattle.attempt.proofs.Reaching.{reachable-step}
@@ -75,7 +74,7 @@ fresh_step x a bytes s f =
     ap (λ (t : List ℕ). act_on a (preferred t (listed bytes))) s.reads.table)
 
 pub fresh-acts : (x : Input) (a : Attempt) (bytes : List ℕ) (v : ℕ) → Fresh x a → fits x bytes ≡ true →
-    preferred x.table (listed bytes) ≡ some v →
+    preferred x.table (listed bytes) ≡ Some v →
     ((journaled_step a Datagram bytes).reply ≡ answered (acts v)) × Acted x v (journaled_step a Datagram bytes).attempt
 fresh-acts x a bytes v s f p =
     rw (fresh_step x a bytes s f, p) (
@@ -91,8 +90,8 @@ fresh-acts x a bytes v s f p =
     )
 
 pub fresh-nothing : (x : Input) (a : Attempt) (bytes : List ℕ) → Fresh x a → fits x bytes ≡ true →
-    preferred x.table (listed bytes) ≡ none →
-    ((journaled_step a Datagram bytes).reply ≡ refuse Reading 65) × ((journaled_step a Datagram bytes).attempt.end ≡ end.Closed 65)
+    preferred x.table (listed bytes) ≡ None →
+    ((journaled_step a Datagram bytes).reply ≡ refuse Reading 65) × ((journaled_step a Datagram bytes).attempt.end ≡ closed_with 65)
 fresh-nothing x a bytes s f p = rw (fresh_step x a bytes s f, p) (refl, refl)
 
 -- ---- it acted

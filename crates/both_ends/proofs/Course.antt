@@ -9,13 +9,13 @@ use Rattle.lists.specs.Wire.{bytes_of}
 use Rattle.negotiation.specs.Limits.{max_packet, min_answered_datagram}
 use Rattle.negotiation.specs.Packet.{negotiation_packet}
 use Rattle.information.specs.Limits.{max_information}
-use Rattle.information.specs.declared.Presence.TheVariants.{Given}
+use Rattle.information.specs.Presence.{Presence.Given}
 use Rattle.server.specs.FirstFlight.{Act, Act.negotiate, Act.use-version, decide}
 use Rattle.attempt.specs.Journaled.{journaled_step}
 use Rattle.attempt.specs.Start.{Input, start_of}
 use Rattle.attempt.specs.Step.{Effect}
 use Rattle.attempt.specs.declared.Attempt.{Attempt}
-use Rattle.attempt.specs.declared.Event.TheVariants.{Datagram, Outcome}
+use Rattle.attempt.specs.Event.{Event.Datagram, Event.Outcome}
 use Rattle.client_information.specs.ClientInformation.{client_information_of}
 use Rattle.both_ends.specs.Configuration.{Configuration}
 use Rattle.both_ends.specs.Exchange.{server_information}

@@ -1,11 +1,13 @@
 -- The server's choice: for a flight that has the version and the information of a client's record, and for any flight in a
 -- version that a safe server offers.
 use Prim.Native.Nat.{ℕ, ◌^◌, ◌<◌}
-use mathlib.Core.Bool.{Bool, true, false, cond, not, ◌&&◌, ◌||◌, or-true, true≢false, false≢true}
+use mathlib.Core.Bool.{Bool, true, false, cond, not, ◌&&◌, ◌||◌, true≢false, false≢true}
 use mathlib.Core.List.{List, [], ◌∷◌, ◌++◌}
 use mathlib.Core.Path.{◌≡◌, refl, sym, ap, ◌∙◌}
 use borrow.Author.Tests.{eqb-true, eq-eqb, not-true, not-false}
 use lib.Dec.{eqb}
+use native.Mathlib.Omega.{arith}
+use Rattle.std.proofs.Common.{tests}
 use Rattle.refusals.specs.Reply.{Reply.answered, refuse}
 use Rattle.refusals.specs.Rule.{Rule, Rule.◌when◌, clear}
 use Rattle.refusals.specs.declared.Call.TheVariants.{Reading}
@@ -15,10 +17,9 @@ use Rattle.versions.specs.Version.{reserved}
 use Rattle.versions.proofs.WithoutReserved.{elem-without, table-not-reserved}
 use Rattle.lists.proofs.Entries.{all_below-elem, number-bytes_of, entries-list_bytes}
 use Rattle.information.specs.Information.{chosen_of, available_of, form_rules, sender_rules, found_in, read_information}
-use Rattle.information.specs.declared.Presence.{Presence}
-use Rattle.information.specs.declared.Presence.TheVariants.{Missing, Given}
+use Rattle.information.specs.Presence.{Presence, Presence.Missing, Presence.Given}
 use Rattle.information.specs.declared.Sender.TheVariants.{Client}
-use Rattle.server.specs.FirstFlight.{Act, Act.negotiate, Act.use-version, server_rules, flight_rules, may_use, first_accepted}
+use Rattle.server.specs.FirstFlight.{Act.negotiate, Act.use-version, server_rules, flight_rules, may_use, first_accepted}
 use Rattle.server.specs.FirstFlight.{with_information, decide}
 use Rattle.attempt.specs.Attempt.{own_as_answered, own_as_sent}
 use Rattle.attempt.specs.Events.{Reachable}
@@ -29,24 +30,6 @@ use Rattle.both_ends.specs.Configuration.{Configuration}
 use Rattle.both_ends.specs.Exchange.{Informed}
 use Rattle.both_ends.proofs.Safe.{Safe}
 
--- ---- answers
-
-uses? : Act → Bool
-uses? negotiate = false
-uses? (use-version v) = true
-
-used : Act → ℕ
-used negotiate = 0
-used (use-version v) = v
-
-use-not-negotiate : (v : ℕ) → use-version v ≡ negotiate → ⊥
-unfolding uses?
-use-not-negotiate v e = true≢false (ap uses? e)
-
-use-injective : (v w : ℕ) → use-version v ≡ use-version w → v ≡ w
-unfolding used
-use-injective v w e = ap used e
-
 -- ---- the first accepted version that may be used
 
 module _ (pairs : List (List ℕ)) (barred : List ℕ) (chosen : ℕ) (available : List ℕ) where
@@ -54,22 +37,8 @@ module _ (pairs : List (List ℕ)) (barred : List ℕ) (chosen : ℕ) (available
   used-is : (accepted : List ℕ) (v : ℕ) → first_accepted accepted pairs barred chosen available ≡ use-version v →
       (elem v accepted ≡ true) × (may_use pairs barred chosen available v ≡ true)
   unfolding first_accepted elem
-  used-is [] v h = absurd (use-not-negotiate v (sym h))
-  used-is (w ∷ accepted) v h = go (may_use pairs barred chosen available w) refl h (used-is accepted v)
-    where
-      go : (b : Bool) → may_use pairs barred chosen available w ≡ b →
-          cond b (use-version w) (first_accepted accepted pairs barred chosen available) ≡ use-version v →
-          (first_accepted accepted pairs barred chosen available ≡ use-version v →
-          (elem v accepted ≡ true) × (may_use pairs barred chosen available v ≡ true)) →
-          ((eqb w v || elem v accepted) ≡ true) × (may_use pairs barred chosen available v ≡ true)
-      go true m e later =
-          let same : w ≡ v = use-injective w v e in (
-            ap (λ (b : Bool). b || elem v accepted) (eq-eqb w v same),
-            ap (may_use pairs barred chosen available) (sym same) ∙ m,
-          )
-      go false m e later =
-          let found = later e in
-          (ap (λ (b : Bool). eqb w v || b) found.0 ∙ or-true (eqb w v), found.1)
+  used-is [] v h = cc
+  used-is (w ∷ accepted) v h = let later = used-is accepted v in grind (arith, tests)
 
   -- so it is available
   may-be-available : (v : ℕ) → may_use pairs barred chosen available v ≡ true → elem v available ≡ true
@@ -130,9 +99,7 @@ negotiated-not-offered c s barred version presence information h = go (elem vers
   where
     missing : elem version c.accepted ≡ true → with_information c.accepted c.pairs barred version Missing information ≡ answered negotiate → ⊥
     missing accepted e =
-        use-not-negotiate version
-        (answered-injective _ _
-        (ap (λ (b : Bool). answered (cond b (use-version version) negotiate)) (sym accepted) ∙ e))
+        let taken = ap (λ (b : Bool). answered (cond b (use-version version) negotiate)) (sym accepted) ∙ e in cc
 
     given : elem version c.accepted ≡ true → with_information c.accepted c.pairs barred version Given information ≡ answered negotiate → ⊥
     given accepted e =
@@ -141,7 +108,7 @@ negotiated-not-offered c s barred version presence information h = go (elem vers
         let facts = flight-clear information version found.0 in
         let taken = chosen-used c.pairs barred (chosen_of information) (available_of information) c.accepted
         (ap (λ (v : ℕ). elem v c.accepted) facts.1 ∙ accepted) facts.0 in
-        use-not-negotiate taken.0 (sym taken.1 ∙ found.1)
+        cc (taken.1, found.1)
 
     never : (p : Presence) → elem version c.accepted ≡ true → with_information c.accepted c.pairs barred version p information ≡ answered negotiate → ⊥
     never Missing = missing
@@ -230,4 +197,4 @@ module _ (a : Attempt) (information : List ℕ) (r : Reachable a) (i : Informed 
             found.0,
             sym (sent-own in_use unreserved) ∙ may-be-available pairs barred a.attempted (own_as_sent a i.given) in_use found.1,
           )
-      go none false e d = absurd (use-not-negotiate in_use (sym (answered-injective _ _ d)))
+      go none false e d = cc

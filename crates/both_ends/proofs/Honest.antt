@@ -4,7 +4,7 @@
 use Prim.Native.Nat.{ℕ, ◌^◌, ◌≤◌}
 use mathlib.Core.Bool.{Bool, true, false}
 use mathlib.Core.List.{List}
-use mathlib.Core.Option.{Option.none, Option.some}
+use Rattle.std.specs.Prelude.{None, Some}
 use mathlib.Core.Path.{◌≡◌, refl, sym, ap, ◌∙◌}
 use borrow.Author.Tests.{le-ltb}
 use lib.ListN.{length}
@@ -21,17 +21,16 @@ use Rattle.choosing.proofs.Laws.{preferred-held}
 use Rattle.invariants.specs.Header.{version_of}
 use Rattle.negotiation.specs.Packet.{list_sent, negotiation_packet}
 use Rattle.negotiation.proofs.WithReserved.{other-never-24}
-use Rattle.information.specs.declared.Presence.{Presence}
-use Rattle.information.specs.declared.Presence.TheVariants.{Given}
+use Rattle.information.specs.Presence.{Presence, Presence.Given}
 use Rattle.server.specs.FirstFlight.{Act, Act.negotiate, Act.use-version, server_rules, decide}
 use Rattle.server.specs.Limits.{max_barred}
-use Rattle.attempt.specs.Attempt.{own_as_answered, own_as_sent, own_of}
+use Rattle.attempt.specs.Attempt.{closed_with, own_as_answered, own_as_sent, own_of}
 use Rattle.attempt.specs.Events.{journaled_run, Reachable}
 use Rattle.attempt.specs.Journaled.{journaled_step}
 use Rattle.attempt.specs.Start.{Input, our_list, start_of}
 use Rattle.attempt.specs.declared.Attempt.{Attempt}
 use Rattle.attempt.specs.declared.End.TheVariants as end
-use Rattle.attempt.specs.declared.Event.TheVariants.{Datagram}
+use Rattle.attempt.specs.Event.{Event.Datagram}
 use Rattle.attempt.proofs.Phases.{Fresh, Acted}
 use Rattle.attempt.proofs.Reaching.{reachable-step}
 use Rattle.both_ends.specs.Configuration.{Configuration, is_safe}
@@ -79,7 +78,7 @@ module _ (c : Configuration) (x : Input) (e : Exchange c x) where
 
   -- For every safe server and every exchange in which the client's table has a version in common with what is offered, the
   -- exchange completes: with the choice from what is offered as the attempted version
-  pub honest-exchange : (attempted : ℕ) → is_safe c ≡ true → preferred x.table c.offered ≡ some attempted → Completes e attempted
+  pub honest-exchange : (attempted : ℕ) → is_safe c ≡ true → preferred x.table c.offered ≡ Some attempted → Completes e attempted
   unfolding own_of
   honest-exchange attempted safe? choice =
       let s = safe-facts c safe? in
@@ -113,8 +112,8 @@ module _ (c : Configuration) (x : Input) (e : Exchange c x) where
           }
 
   -- Where nothing is in common: 65
-  pub nothing-in-common : preferred x.table c.offered ≡ none →
-      ((journaled_step (waiting e) Datagram e.packet).reply ≡ refuse Reading 65) × ((negotiated_with e).end ≡ end.Closed 65)
+  pub nothing-in-common : preferred x.table c.offered ≡ None →
+      ((journaled_step (waiting e) Datagram e.packet).reply ≡ refuse Reading 65) × ((negotiated_with e).end ≡ closed_with 65)
   nothing-in-common h =
       fresh-nothing x (waiting e) e.packet waits (packet-fits c x e.packet e.negotiated)
       (packet-choice c x e.packet e.negotiated e.accepted ∙ h)

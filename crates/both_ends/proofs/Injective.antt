@@ -1,6 +1,8 @@
--- The definition that sets out the cases of a finding tells them apart.
+-- The definition that sets out the cases of the test's result tells them apart.
 use mathlib.Core.Path.{◌≡◌, refl}
+use Rattle.std.specs.Prelude.{Result, Ok, Err}
 use Rattle.refusals.specs.Reply.{Reply, Reply.refused, Reply.answered}
+use Rattle.refusals.specs.declared.Refusal.{Refusal}
 use Rattle.refusals.proofs.Injective.{injective-by, numbered}
 use Rattle.both_ends.specs.Configuration.{Part.accepted-not-offered, Part.offered-not-accepted, Part.offered-not-readable}
 use Rattle.both_ends.specs.Configuration.{Part.available-not-offered, Part.offered-not-available, Verdict, Verdict.safe, Verdict.broken}
@@ -8,24 +10,24 @@ use Rattle.both_ends.specs.Configuration.{finding_reply}
 use Rattle.both_ends.specs.declared.Finding.{Finding}
 use Rattle.both_ends.specs.declared.Finding.TheVariants as finding
 
-found : Reply Verdict → Finding
-found (refused n c) = finding.Refused (numbered n)
-found (answered safe) = finding.Safe
-found (answered (broken accepted-not-offered v)) = finding.AcceptedNotOffered v
-found (answered (broken offered-not-accepted v)) = finding.OfferedNotAccepted v
-found (answered (broken offered-not-readable v)) = finding.OfferedNotReadable v
-found (answered (broken available-not-offered v)) = finding.AvailableNotOffered v
-found (answered (broken offered-not-available v)) = finding.OfferedNotAvailable v
+result : Reply Verdict → Result Finding Refusal
+result (refused n c) = Err (numbered n)
+result (answered safe) = Ok finding.Safe
+result (answered (broken accepted-not-offered v)) = Ok (finding.AcceptedNotOffered v)
+result (answered (broken offered-not-accepted v)) = Ok (finding.OfferedNotAccepted v)
+result (answered (broken offered-not-readable v)) = Ok (finding.OfferedNotReadable v)
+result (answered (broken available-not-offered v)) = Ok (finding.AvailableNotOffered v)
+result (answered (broken offered-not-available v)) = Ok (finding.OfferedNotAvailable v)
 
-found_back : (f : Finding) → found (finding_reply f) ≡ f
-unfolding found
-found_back (finding.Refused r) = refl
-found_back finding.Safe = refl
-found_back (finding.AcceptedNotOffered v) = refl
-found_back (finding.OfferedNotAccepted v) = refl
-found_back (finding.OfferedNotReadable v) = refl
-found_back (finding.AvailableNotOffered v) = refl
-found_back (finding.OfferedNotAvailable v) = refl
+result_back : (r : Result Finding Refusal) → result (finding_reply r) ≡ r
+unfolding result
+result_back (Err r) = refl
+result_back (Ok finding.Safe) = refl
+result_back (Ok (finding.AcceptedNotOffered v)) = refl
+result_back (Ok (finding.OfferedNotAccepted v)) = refl
+result_back (Ok (finding.OfferedNotReadable v)) = refl
+result_back (Ok (finding.AvailableNotOffered v)) = refl
+result_back (Ok (finding.OfferedNotAvailable v)) = refl
 
-pub finding-injective : (a b : Finding) → finding_reply a ≡ finding_reply b → a ≡ b
-finding-injective = injective-by finding_reply found found_back
+pub finding-injective : (a b : Result Finding Refusal) → finding_reply a ≡ finding_reply b → a ≡ b
+finding-injective = injective-by finding_reply result result_back

@@ -3,7 +3,7 @@
 use Prim.Native.Nat.{ℕ}
 use mathlib.Core.Bool.{true}
 use mathlib.Core.List.{List, [], ◌∷◌}
-use mathlib.Core.Option.{Option.some}
+use Rattle.std.specs.Prelude.{Some}
 use mathlib.Core.Path.{◌≡◌, refl}
 use Rattle.refusals.specs.Reply.{Reply.answered}
 use Rattle.versions.specs.Pairs.{paired, pair_keeps_rule, each_pair_keeps_rule, pairs_keep_rule}
@@ -16,7 +16,7 @@ use Rattle.choosing.specs.Choice.{preferred}
 use Rattle.invariants.specs.Header.{is_readable_negotiation}
 use Rattle.negotiation.specs.Packet.{packet_for, negotiation_packet}
 use Rattle.information.specs.Information.{information_bytes}
-use Rattle.information.specs.declared.Presence.TheVariants.{Missing, Given}
+use Rattle.information.specs.Presence.{Presence.Missing, Presence.Given}
 use Rattle.server.specs.FirstFlight.{may_use, first_accepted, decide}
 use Rattle.attempt.specs.AsSent.{given_for, sent_from, list_as_sent, each_given_keeps_rule, given_keep_rule}
 use Rattle.attempt.specs.Attempt.{padded, own_of}
@@ -26,9 +26,9 @@ use Rattle.attempt.specs.OwnList.{may_be_answered, word_of, word_for, rows_for}
 use Rattle.attempt.specs.Start.{Input, input_of, start_of, opened}
 use Rattle.attempt.specs.Step.{Effect.completes, same, on_datagram, on_outcome, step_of}
 use Rattle.attempt.specs.declared.Attempt.{Attempt}
-use Rattle.attempt.specs.declared.Event.TheVariants.{Datagram, Outcome}
+use Rattle.attempt.specs.Event.{Event.Datagram, Event.Outcome}
 use Rattle.client_information.specs.ClientInformation.{information_as_sent}
-use Rattle.both_ends.specs.Configuration.{Configuration, configuration_of, within, keeps_safe_rule, is_safe, first_outside, verdict_on}
+use Rattle.both_ends.specs.Configuration.{Configuration, configuration_of, within, keeps_safe_rule, is_safe}
 use Rattle.both_ends.specs.Configuration.{Part.accepted-not-offered, Part.offered-not-accepted, Part.offered-not-readable}
 use Rattle.both_ends.specs.Configuration.{Part.available-not-offered, Part.offered-not-available, Verdict.broken}
 use Rattle.both_ends.specs.Configuration.{judged_configuration}
@@ -72,7 +72,7 @@ pub record Found : Type 0 where
   pub none-available-is : judged_configuration none-available ≡ answered (broken offered-not-available 1)
 
 pub found : Found
-unfolding judged_configuration verdict_on first_outside paired pair_keeps_rule each_pair_keeps_rule pairs_keep_rule elem entries_keep_rule
+unfolding judged_configuration paired pair_keeps_rule each_pair_keeps_rule pairs_keep_rule elem entries_keep_rule
     table_keeps_rule reserved usable
 found =
     record {
@@ -130,19 +130,19 @@ three pairs = client (2 ∷ 1 ∷ 14 ∷ []) pairs 14
 pub record Forged : Type 0 where
   -- Available with less than is offered: down to 1
   pub less-is : judged_configuration less-listed ≡ answered (broken offered-not-available 2)
-  pub less-choice : preferred (three []).table less-listed.offered ≡ some 2
+  pub less-choice : preferred (three []).table less-listed.offered ≡ Some 2
   pub with-less : course_with less-listed (three []) (1 ∷ []) ≡ completed-with 1 1
   -- accepted but not offered
   pub not-offered-is : judged_configuration not-offered ≡ answered (broken accepted-not-offered 2)
-  pub not-offered-choice : preferred (three []).table not-offered.offered ≡ some 1
+  pub not-offered-choice : preferred (three []).table not-offered.offered ≡ Some 1
   pub with-not-offered : course_with not-offered (three []) (2 ∷ []) ≡ completed-with 2 2
   -- Available with more than is offered
   pub more-is : judged_configuration more-listed ≡ answered (broken available-not-offered 2)
-  pub more-choice : preferred (three ((2 ∷ 1 ∷ []) ∷ [])).table more-listed.offered ≡ some 1
+  pub more-choice : preferred (three ((2 ∷ 1 ∷ []) ∷ [])).table more-listed.offered ≡ Some 1
   pub with-more : course_with more-listed (three ((2 ∷ 1 ∷ []) ∷ [])) (2 ∷ []) ≡ completed-with 2 1
 
 pub forged : Forged
-unfolding judged_configuration verdict_on first_outside negotiation_packet packet_for list_bytes entries each_reserved reserved_keep_rule paired
+unfolding judged_configuration negotiation_packet packet_for list_bytes entries each_reserved reserved_keep_rule paired
     pair_keeps_rule each_pair_keeps_rule pairs_keep_rule preferred elem entries_keep_rule table_keeps_rule reserved usable
     is_readable_negotiation padded own_of journaled_step members word_where word_of word_for rows_for may_be_answered start_of opened step_of
     on_datagram on_outcome same information_as_sent given_for sent_from list_as_sent each_given_keeps_rule given_keep_rule may_use first_accepted
@@ -186,11 +186,11 @@ pub record Premises : Type 0 where
   -- "information given": with missing information a client that attempted 1 completes through the stand-in of RFC 9368 section 8,
   -- though the server is safe and the client would choose 5
   pub four-safe : is_safe four-versions ≡ true
-  pub four-choice : preferred speaks-1.table four-versions.offered ≡ some 5
+  pub four-choice : preferred speaks-1.table four-versions.offered ≡ Some 5
   pub missing : (journaled_step (acted_on speaks-1 1) (Outcome 1 Missing) []).reply ≡ answered (completes 1)
   -- "a version in use that the server accepts": a handshake in 1 with a server that accepts 2 alone
   pub two-safe : is_safe only-2 ≡ true
-  pub two_choice : preferred likes-1.table only-2.offered ≡ some 2
+  pub two_choice : preferred likes-1.table only-2.offered ≡ Some 2
   pub not-accepted : (journaled_step (acted_on likes-1 1) (Outcome 1 Given) (information_bytes 1 (2 ∷ []))).reply ≡ answered (completes 1)
 
 pub premises : Premises

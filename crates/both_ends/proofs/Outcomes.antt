@@ -1,9 +1,9 @@
 -- The outcome of a safe server's handshake: its information can be written and read, and a client whose own list has the version
 -- in use completes, whether it acted on the server's packet or on none.
 use Prim.Native.Nat.{ℕ, ◌^◌, ◌<◌, ◌≤◌}
-use mathlib.Core.Bool.{Bool, true, false, not, ◌||◌, or-true, false≢true}
+use mathlib.Core.Bool.{Bool, true, false, not, or-true, false≢true}
 use mathlib.Core.List.{List, [], ◌∷◌, ◌++◌}
-use mathlib.Core.Option.{Option.some}
+use Rattle.std.specs.Prelude.{Some}
 use mathlib.Core.Path.{◌≡◌, refl, sym, ap, ◌∙◌}
 use native.Mathlib.Omega.{arith}
 use borrow.Author.Tests.{eq-eqb, ne_eqb}
@@ -20,7 +20,7 @@ use Rattle.lists.proofs.Entries.{all_below-cons, all_below-elem, number-bytes_of
 use Rattle.choosing.specs.Choice.{preferred}
 use Rattle.choosing.proofs.Laws.{preferred-by-membership, preferred-held}
 use Rattle.information.specs.Information.{chosen_of, available_of, form_rules, sender_rules, found_in, read_information, information_length, information_to_write}
-use Rattle.information.specs.declared.Presence.TheVariants.{Given}
+use Rattle.information.specs.Presence.{Presence.Given}
 use Rattle.information.specs.declared.Sender.TheVariants as sender
 use Rattle.information.proofs.Kept.{Kept, write-answers}
 use Rattle.information.proofs.RoundTrip.{written_read}
@@ -30,7 +30,7 @@ use Rattle.attempt.specs.Start.{Input, our_list}
 use Rattle.attempt.specs.Step.{After, information_rules, outcome_rules, closed, completed, step_of}
 use Rattle.attempt.specs.declared.Attempt.{Attempt}
 use Rattle.attempt.specs.declared.End.TheVariants as end
-use Rattle.attempt.specs.declared.Event.TheVariants.{Outcome}
+use Rattle.attempt.specs.Event.{Event.Outcome}
 use Rattle.attempt.proofs.Demand3.{added}
 use Rattle.attempt.proofs.Phases.{Acted, information-good, open-outcome}
 use Rattle.both_ends.specs.Configuration.{Configuration}
@@ -43,8 +43,8 @@ each_below : (bound : ℕ) (list : List ℕ) → ((v : ℕ) → elem v list ≡ 
 unfolding all_below elem
 each_below bound [] h = refl
 each_below bound (w ∷ list) h =
-    all_below-cons bound w list (h w (ap (λ (b : Bool). b || elem w list) (eq-eqb w w refl)))
-    (each_below bound list (λ v e. h v (ap (λ (b : Bool). eqb w v || b) e ∙ or-true (eqb w v))))
+    all_below-cons bound w list (h w (rw (eq-eqb w w refl) refl))
+    (each_below bound list (λ v e. h v (rw (e, or-true) refl)))
 
 -- What a safe server offers are versions of 32 bits, so are those that it lists as Available
 pub available-below : (c : Configuration) → Safe c → all_below (2 ^ 32) c.offered ≡ true → all_below (2 ^ 32) c.available ≡ true
@@ -94,8 +94,8 @@ module _ (c : Configuration) (s : Safe c) (below : all_below (2 ^ 32) c.availabl
       let long = information_length c.available in
       let read = written_read sender.Server in_use c.available long bytes small below (server-writes long (omega arith)) in
       let from-server = sender_rules sender.Server (chosen_of bytes) (available_of bytes) in
-      let none = (answer-given Reading (form_rules bytes ++ from-server) (found_in bytes) read.found read.reads).0 in
-      (both_true (clear (form_rules bytes)) (clear from-server) (sym (clear-append (form_rules bytes) from-server) ∙ none)).0
+      let None = (answer-given Reading (form_rules bytes ++ from-server) (found_in bytes) read.found read.reads).0 in
+      (both_true (clear (form_rules bytes)) (clear from-server) (sym (clear-append (form_rules bytes) from-server) ∙ None)).0
 
   pub server-chosen : chosen_of (server_information c in_use) ≡ in_use
   server-chosen = number-bytes_of in_use small
@@ -108,10 +108,10 @@ module _ (c : Configuration) (s : Safe c) (below : all_below (2 ^ 32) c.availabl
   -- an outcome to which no rule applies ends the exchange
   ends : (a : Attempt) → a.end ≡ end.Open → clear (information_rules a in_use Given (server_information c in_use)) ≡ true → Ends c a in_use
   unfolding journaled_step
-  ends a open? none =
+  ends a open? None =
       let step : step_of a (Outcome in_use Given) (server_information c in_use) ≡ completed a in_use =
       open-outcome a in_use Given (server_information c in_use) open? ∙
-      lowest-clear (closed a) (completed a in_use) (information_rules a in_use Given (server_information c in_use)) none in
+      lowest-clear (closed a) (completed a in_use) (information_rules a in_use Given (server_information c in_use)) None in
       record {
         written = server-writes;
         completes = ap (λ (t : After). t.reply) step;
@@ -120,9 +120,9 @@ module _ (c : Configuration) (s : Safe c) (below : all_below (2 ^ 32) c.availabl
 
   -- one that acted with the choice from what is offered
   pub acted-ends : (x : Input) (attempted : ℕ) (a : Attempt) → Acted x attempted a →
-      preferred x.table c.offered ≡ some attempted → elem in_use (our_list x attempted) ≡ true → Ends c a in_use
+      preferred x.table c.offered ≡ Some attempted → elem in_use (our_list x attempted) ≡ true → Ends c a in_use
   acted-ends x attempted a acted choice own =
-      let again : preferred x.table (c.available ++ (in_use ∷ [])) ≡ some attempted =
+      let again : preferred x.table (c.available ++ (in_use ∷ [])) ≡ Some attempted =
       added x.table c.available in_use in-use-available ∙
       preferred-by-membership x.table c.available c.offered (λ v e. s.available-offered v) ∙
       choice in

@@ -15,7 +15,7 @@ use Rattle.versions.specs.Reserved.{reserved_keep_rule, without_reserved}
 use Rattle.versions.specs.Table.{elem}
 use Rattle.versions.proofs.WithoutReserved.{same-without, without-append, without-each, table-not-reserved}
 use Rattle.lists.specs.Wire.{all_below}
-use Rattle.information.specs.declared.Presence.TheVariants.{Given}
+use Rattle.information.specs.Presence.{Presence.Given}
 use Rattle.choosing.specs.Choice.{preferred}
 use Rattle.choosing.proofs.Laws.{preferred-by-membership}
 use Rattle.invariants.specs.Header.{destination_id, source_id, is_readable_negotiation}
@@ -28,7 +28,7 @@ use Rattle.attempt.specs.Events.{Reachable}
 use Rattle.attempt.specs.Journaled.{journaled, journaled_step}
 use Rattle.attempt.specs.Step.{After, same, is_late, unchanged, act_on, on_datagram, step_of}
 use Rattle.attempt.specs.declared.Attempt.{Attempt}
-use Rattle.attempt.specs.declared.Event.TheVariants.{Datagram}
+use Rattle.attempt.specs.Event.{Event.Datagram}
 use Rattle.attempt.proofs.Chosen.{attempt-keeps}
 use Rattle.attempt.proofs.ReservedChosen.{original-unreserved, own-unreserved, attempted-own}
 use Rattle.client_information.specs.ClientInformation.{client_information_of}

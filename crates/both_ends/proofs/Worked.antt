@@ -17,7 +17,7 @@ use Rattle.invariants.specs.Header.{is_readable_negotiation}
 use Rattle.negotiation.specs.Packet.{packet_for, negotiation_packet}
 use Rattle.negotiation.proofs.Worked.{case_received, case_offered, case_packet, whole-case}
 use Rattle.information.specs.Information.{information_bytes}
-use Rattle.information.specs.declared.Presence.TheVariants.{Given}
+use Rattle.information.specs.Presence.{Presence.Given}
 use Rattle.attempt.specs.AsSent.{given_for, sent_from, list_as_sent}
 use Rattle.attempt.specs.Attempt.{padded, own_of}
 use Rattle.attempt.specs.Events.{journaled_run, Reachable}
@@ -26,7 +26,7 @@ use Rattle.attempt.specs.OwnList.{may_be_answered, word_of, word_for, rows_for}
 use Rattle.attempt.specs.Start.{Input, input_of, start_of, opened}
 use Rattle.attempt.specs.Step.{Effect.acts, same, on_datagram, step_of}
 use Rattle.attempt.specs.declared.Attempt.{Attempt}
-use Rattle.attempt.specs.declared.Event.TheVariants.{Datagram}
+use Rattle.attempt.specs.Event.{Event.Datagram}
 use Rattle.client_information.proofs.Worked as client
 use Rattle.server.specs.FirstFlight.{decide}
 use Rattle.both_ends.proofs.Reserved.{same-event, same-choice}

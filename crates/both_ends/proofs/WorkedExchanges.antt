@@ -17,7 +17,7 @@ use Rattle.choosing.specs.Choice.{preferred}
 use Rattle.invariants.specs.Header.{is_readable_negotiation}
 use Rattle.negotiation.specs.Packet.{packet_for, negotiation_packet}
 use Rattle.information.specs.Information.{information_bytes}
-use Rattle.information.specs.declared.Presence.TheVariants.{Given}
+use Rattle.information.specs.Presence.{Presence.Given}
 use Rattle.server.specs.FirstFlight.{Act.use-version, may_use, first_accepted, decide}
 use Rattle.attempt.specs.AsSent.{given_for, sent_from, list_as_sent, is_taken, each_given_keeps_rule, given_keep_rule}
 use Rattle.attempt.specs.Attempt.{padded, own_of}
@@ -28,7 +28,7 @@ use Rattle.attempt.specs.OwnList.{may_be_answered, word_of, word_for, rows_for}
 use Rattle.attempt.specs.Start.{Input, input_of, start_of, opened}
 use Rattle.attempt.specs.Step.{Effect.acts, same, on_datagram, on_processed, on_outcome, step_of}
 use Rattle.attempt.specs.declared.Attempt.{Attempt}
-use Rattle.attempt.specs.declared.Event.TheVariants.{Datagram, PacketProcessed, Outcome}
+use Rattle.attempt.specs.Event.{Event.Datagram, Event.PacketProcessed, Event.Outcome}
 use Rattle.client_information.specs.ClientInformation.{information_as_sent}
 use Rattle.both_ends.specs.Configuration.{Configuration, configuration_of, within, keeps_safe_rule, is_safe}
 use Rattle.both_ends.specs.Exchange.{all_ignored, no_outcome, server_information, Informed, Ends, Served, Exchange, Completes, negotiated_with}

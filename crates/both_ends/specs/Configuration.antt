@@ -1,10 +1,11 @@
 -- The lists that a server is configured with, what makes them safe, and what the test of them answers. The papers have no such
 -- test; the rule is that of docs/INTEGRATION.md, "Safe configurations".
-use Rattle.std.specs.Prelude.{ℕ, Bool, true, false, cond, not, ◌&&◌, ◌||◌, List, [], ◌∷◌, ltb, length}
-use Rattle.std.proofs.Math.Option.{Option, Option.none, Option.some}
+use Rattle.std.specs.Prelude.{ℕ, Bool, true, false, not, ◌&&◌, ◌||◌, List, [], ◌∷◌, ltb, length, find}
+use Rattle.std.specs.Prelude.{Option, None, Some, Result, Ok, Err}
 use Rattle.refusals.specs.Reply.{Reply, Reply.answered, refuse}
 use Rattle.refusals.specs.Rule.{Rule, Rule.◌when◌, judged, clear}
 use Rattle.refusals.specs.declared.Call.TheVariants.{Writing}
+use Rattle.refusals.specs.declared.Refusal.{Refusal}
 use Rattle.versions.specs.Pairs.{pairs_keep_rule}
 use Rattle.versions.specs.Table.{elem, table_keeps_rule}
 use Rattle.information.specs.Limits.{max_available}
@@ -67,17 +68,16 @@ pub data Verdict : Type 0 where
   broken : Part → ℕ → Verdict
 
 -- The first version of a list that the other does not hold
-unfoldable pub first_outside : List ℕ → List ℕ → Option ℕ
-first_outside [] other = none
-first_outside (v ∷ vs) other = cond (elem v other) (first_outside vs other) (some v)
+abbrev pub first_outside : List ℕ → List ℕ → Option ℕ
+first_outside list other = find (λ v. not (elem v other)) list
 
 -- A part that a version breaks, or, where none does, what is found of the parts after it
 abbrev pub broken_by : Part → Option ℕ → Verdict → Verdict
-broken_by part none later = later
-broken_by part (some v) later = broken part v
+broken_by part None later = later
+broken_by part (Some v) later = broken part v
 
 -- The first part that is broken, in this order
-unfoldable pub verdict_on : Configuration → Verdict
+abbrev pub verdict_on : Configuration → Verdict
 verdict_on c =
     broken_by accepted-not-offered (first_outside c.accepted c.offered)
     (broken_by offered-not-accepted (first_outside c.offered c.accepted)
@@ -90,21 +90,25 @@ unfoldable pub judged_configuration : Configuration → Reply Verdict
 judged_configuration c = judged Writing (configuration_rules c) (answered (verdict_on c))
 
 -- The cases of `Finding`
-abbrev pub finding_reply : Finding → Reply Verdict
-finding_reply (finding.Refused r) = refuse Writing r.0
-finding_reply finding.Safe = answered safe
-finding_reply (finding.AcceptedNotOffered v) = answered (broken accepted-not-offered v)
-finding_reply (finding.OfferedNotAccepted v) = answered (broken offered-not-accepted v)
-finding_reply (finding.OfferedNotReadable v) = answered (broken offered-not-readable v)
-finding_reply (finding.AvailableNotOffered v) = answered (broken available-not-offered v)
-finding_reply (finding.OfferedNotAvailable v) = answered (broken offered-not-available v)
+abbrev pub verdict_in : Finding → Verdict
+verdict_in finding.Safe = safe
+verdict_in (finding.AcceptedNotOffered v) = broken accepted-not-offered v
+verdict_in (finding.OfferedNotAccepted v) = broken offered-not-accepted v
+verdict_in (finding.OfferedNotReadable v) = broken offered-not-readable v
+verdict_in (finding.AvailableNotOffered v) = broken available-not-offered v
+verdict_in (finding.OfferedNotAvailable v) = broken offered-not-available v
+
+-- The cases of the test's result
+abbrev pub finding_reply : Result Finding Refusal → Reply Verdict
+finding_reply (Ok f) = answered (verdict_in f)
+finding_reply (Err r) = refuse Writing r.0
+
+-- The verdict that no part is broken
+abbrev pub found_safe : Verdict → Bool
+found_safe safe = true
+found_safe (broken part v) = false
 
 -- The answer says that the configuration is safe
-abbrev pub says_safe : Finding → Bool
-says_safe (finding.Refused r) = false
-says_safe finding.Safe = true
-says_safe (finding.AcceptedNotOffered v) = false
-says_safe (finding.OfferedNotAccepted v) = false
-says_safe (finding.OfferedNotReadable v) = false
-says_safe (finding.AvailableNotOffered v) = false
-says_safe (finding.OfferedNotAvailable v) = false
+abbrev pub says_safe : Result Finding Refusal → Bool
+says_safe (Ok f) = found_safe (verdict_in f)
+says_safe (Err r) = false

@@ -3,7 +3,7 @@
 -- `client_information_of` of the client, `negotiation_packet`, `decide`, `information_to_write` of the server. A version is a number
 -- of 32 bits and a datagram is of bytes: a slice tells it of its elements, here `all_below` asks it.
 use Rattle.std.specs.Prelude.{ℕ, ◌^◌, ◌≤◌, Bool, true, false, not, ◌&&◌, List, [], ◌∷◌, ◌≡◌, length}
-use Rattle.std.proofs.Math.Option.{Option.some}
+use Rattle.std.specs.Prelude.{Some}
 use Rattle.refusals.specs.Reply.{Reply.answered}
 use Rattle.versions.specs.Table.{elem, place_of}
 use Rattle.lists.specs.Wire.{all_below}
@@ -11,7 +11,7 @@ use Rattle.choosing.specs.Choice.{preferred}
 use Rattle.invariants.specs.Header.{version_of, destination_id, source_id}
 use Rattle.negotiation.specs.Packet.{list_sent, negotiation_packet}
 use Rattle.information.specs.Information.{available_of, information_bytes, information_length, information_to_write}
-use Rattle.information.specs.declared.Presence.TheVariants.{Given}
+use Rattle.information.specs.Presence.{Presence.Given}
 use Rattle.information.specs.declared.Sender.TheVariants as sender
 use Rattle.server.specs.FirstFlight.{Act.use-version, decide}
 use Rattle.server.specs.Limits.{max_barred}
@@ -23,8 +23,7 @@ use Rattle.attempt.specs.Start.{Input, is_accepted, start_of}
 use Rattle.attempt.specs.Step.{Effect.acts, Effect.completes}
 use Rattle.attempt.specs.declared.Attempt.{Attempt}
 use Rattle.attempt.specs.declared.End.TheVariants as end
-use Rattle.attempt.specs.declared.Event.{Event}
-use Rattle.attempt.specs.declared.Event.TheVariants.{Datagram, PacketProcessed, Outcome}
+use Rattle.attempt.specs.Event.{Event, Event.Datagram, Event.PacketProcessed, Event.Outcome}
 use Rattle.client_information.specs.ClientInformation.{client_information_of}
 use Rattle.both_ends.specs.Configuration.{Configuration}
 
@@ -125,10 +124,10 @@ pub record Completes {c : Configuration} {x : Input} (e : Exchange c x) (attempt
 -- list, and with a version in use that the server accepts
 pub record CompletedWith (c : Configuration) (x : Input) (events : List Handed) (attempted : ℕ) : Type 0 where
   pub accepted : is_accepted x ≡ true
-  pub acted : acted_with x events ≡ some attempted
+  pub acted : acted_with x events ≡ Some attempted
   pub completed : is_completed (journaled_run (start_of x).attempt events).end ≡ true
   pub handshake : Handshake
-  pub first : first_outcome events ≡ some handshake
+  pub first : first_outcome events ≡ Some handshake
   pub given : handshake.presence ≡ Given
   pub available : available_of handshake.bytes ≡ c.available
   pub in_use : elem handshake.in_use c.accepted ≡ true
@@ -137,7 +136,7 @@ pub record CompletedWith (c : Configuration) (x : Input) (events : List Handed) 
 -- offered, that is what the server's own packet leads to; where it is, the attempted version does not stand behind it in the
 -- client's table
 pub record NotLedDown {c : Configuration} {x : Input} {events : List Handed} {attempted : ℕ} (d : CompletedWith c x events attempted) : Type 0 where
-  pub choice : preferred x.table c.offered ≡ some attempted
+  pub choice : preferred x.table c.offered ≡ Some attempted
   pub own-packet : (packet : List ℕ) → Negotiated c x packet →
       (journaled_step (start_of x).attempt Datagram packet).reply ≡ answered (acts attempted)
   pub not_behind : elem x.original c.offered ≡ true → place_of attempted x.table ≤ place_of x.original x.table

@@ -4,21 +4,16 @@
 #![tactic(auto)]
 
 ghost use Rattle.std.specs.Prelude.{[], ◌≡◌};
-ghost use Rattle.refusals.specs.Reply.{Reply.answered};
-ghost use Rattle.both_ends.specs.Configuration.{configuration_of, first_outside, is_safe, judged_configuration, verdict_on, finding_reply, says_safe};
-ghost use Rattle.lists.specs.Wire.{entry_reply};
+ghost use Rattle.both_ends.specs.Configuration.{configuration_of, first_outside, is_safe, judged_configuration, verdict_on, verdict_in, finding_reply, says_safe};
 
 use information::MAX_AVAILABLE;
-use lists::Entry;
 use refusals::Refusal;
 use versions::pairs::are_pairs;
-use versions::table::{holds, is_table};
+use versions::table::{contains, is_table};
 
-// What the test of a configuration finds: it refuses, the configuration is safe, or a part of the safe rule is broken by a
-// version.
-#[derive(Drop)]
+// What the test of a configuration finds: it is safe, or a part of the safe rule is broken by a version.
+#[derive(Clone, Copy)]
 pub enum Finding {
-    Refused(Refusal),
     Safe,
     AcceptedNotOffered(u32),
     OfferedNotAccepted(u32),
@@ -33,79 +28,60 @@ pub enum Finding {
 // or of accepted versions breaks its rule), 43 (the pairs break their rule). The safe rule: accepted, offered and Available
 // hold the same versions, and each of them is readable. Where it is broken, the first part that is, in the order of
 // `Finding`, with the first version of the list named first that breaks it.
+// The lists come one by one, not in a struct: a public function keeps its parameters (docs/PROMISES.md names it).
+#[tactic(auto, using(crate::proofs::Findings::safe_found), unfolding(crate::specs::Configuration::judged_configuration, crate::specs::Configuration::is_safe))]
 pub fn judge_configuration(
     readable: &[u32],
     accepted: &[u32],
     offered: &[u32],
     available: &[u32],
     pairs: &[[u32; 2]],
-) -> Finding
+) -> Result<Finding, Refusal>
     ensures answer { finding_reply result ≡ judged_configuration (configuration_of readable.now accepted.now offered.now available.now pairs.now) }
     ensures safe { says_safe result ≡ is_safe (configuration_of readable.now accepted.now offered.now available.now pairs.now) }
 {
     if !is_table(offered) {
-        return Finding::Refused(Refusal::BAD_OFFERED_TABLE);
+        return Err(Refusal::BAD_OFFERED_TABLE);
     }
     if MAX_AVAILABLE < available.len() {
-        return Finding::Refused(Refusal::INFORMATION_TOO_LONG);
+        return Err(Refusal::INFORMATION_TOO_LONG);
     }
-    if !is_table(readable) {
-        return Finding::Refused(Refusal::BAD_TABLE);
-    }
-    if !is_table(accepted) {
-        return Finding::Refused(Refusal::BAD_TABLE);
+    if !is_table(readable) || !is_table(accepted) {
+        return Err(Refusal::BAD_TABLE);
     }
     if !are_pairs(pairs) {
-        return Finding::Refused(Refusal::BAD_PAIRS);
+        return Err(Refusal::BAD_PAIRS);
     }
-    judge_lists(readable, accepted, offered, available)
+    Ok(judge_lists(readable, accepted, offered, available))
 }
 
 // The first part of the safe rule that is broken.
 fn judge_lists(readable: &[u32], accepted: &[u32], offered: &[u32], available: &[u32]) -> Finding
-    ensures { finding_reply result ≡ answered (verdict_on (configuration_of readable.now accepted.now offered.now available.now [])) }
+    ensures { verdict_in result ≡ verdict_on (configuration_of readable.now accepted.now offered.now available.now []) }
 {
-    match first_outside(accepted, offered) {
-        Entry::Version(version) => {
-            return Finding::AcceptedNotOffered(version);
-        }
-        Entry::Nothing => {}
+    if let Some(version) = first_outside(accepted, offered) {
+        return Finding::AcceptedNotOffered(version);
     }
-    match first_outside(offered, accepted) {
-        Entry::Version(version) => {
-            return Finding::OfferedNotAccepted(version);
-        }
-        Entry::Nothing => {}
+    if let Some(version) = first_outside(offered, accepted) {
+        return Finding::OfferedNotAccepted(version);
     }
-    match first_outside(offered, readable) {
-        Entry::Version(version) => {
-            return Finding::OfferedNotReadable(version);
-        }
-        Entry::Nothing => {}
+    if let Some(version) = first_outside(offered, readable) {
+        return Finding::OfferedNotReadable(version);
     }
-    match first_outside(available, offered) {
-        Entry::Version(version) => {
-            return Finding::AvailableNotOffered(version);
-        }
-        Entry::Nothing => {}
+    if let Some(version) = first_outside(available, offered) {
+        return Finding::AvailableNotOffered(version);
     }
-    match first_outside(offered, available) {
-        Entry::Version(version) => Finding::OfferedNotAvailable(version),
-        Entry::Nothing => Finding::Safe,
+    if let Some(version) = first_outside(offered, available) {
+        return Finding::OfferedNotAvailable(version);
     }
+    Finding::Safe
 }
 
 // The first version of a list that the other does not hold.
-fn first_outside(list: &[u32], other: &[u32]) -> Entry
-    ensures { entry_reply result ≡ first_outside list.now other.now }
+fn first_outside(list: &[u32], other: &[u32]) -> Option<u32>
+    ensures { result ≡ first_outside list.now other.now }
 {
-    let mut i = 0;
-    while i < list.len() {
-        let version = list[i];
-        if !holds(other, version) {
-            return Entry::Version(version);
-        }
-        i += 1;
-    }
-    Entry::Nothing
+    list.iter()
+        .copied()
+        .find(|version| !contains(other, *version))
 }

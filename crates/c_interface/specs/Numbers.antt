@@ -1,16 +1,13 @@
 -- Answers as numbers. A refusal is its number, 0 is none; a value goes into a lent number, which a refusal leaves.
 use Rattle.std.specs.Prelude.{ℕ, cond, List, [], ◌∷◌, eqb}
-use Rattle.std.proofs.Math.Option.{Option, Option.none, Option.some}
+use Rattle.std.specs.Prelude.{Option, None, Some}
 use Rattle.refusals.specs.Close.{close_of}
 use Rattle.refusals.specs.Reply.{Reply, Reply.refused, Reply.answered, refusal_of}
 use Rattle.refusals.specs.declared.Call.{Call}
 use Rattle.refusals.specs.declared.Call.TheVariants.{Reading, Writing}
-use Rattle.refusals.specs.declared.Close.{Close}
-use Rattle.refusals.specs.declared.Close.TheVariants.{Nothing, With}
 use Rattle.invariants.specs.Header.{Form, Form.long, Form.short, Form.version_negotiation}
 use Rattle.information.specs.Information.{Found, read_information, information_to_write}
-use Rattle.information.specs.declared.Presence.{Presence}
-use Rattle.information.specs.declared.Presence.TheVariants.{Missing, Given}
+use Rattle.information.specs.Presence.{Presence, Presence.Missing, Presence.Given}
 use Rattle.information.specs.declared.Sender.{Sender}
 use Rattle.information.specs.declared.Sender.TheVariants.{Client, Server}
 use Rattle.server.specs.FirstFlight.{Act, Act.negotiate, Act.use-version, decide}
@@ -23,9 +20,9 @@ use Rattle.c_record.specs.Numbers.{not_valid}
 use Rattle.c_record.specs.Records.{is_record, attempt_of}
 use Rattle.c_record.specs.declared.Record.{Record}
 
-abbrev pub close_number : Close → ℕ
-close_number Nothing = 0
-close_number (With code) = code
+abbrev pub close_number : Option ℕ → ℕ
+close_number None = 0
+close_number (Some code) = code
 
 -- What a function returns for an answer: the number of its refusal, 0 where there is none
 abbrev pub returned : {A : Type 0} → Reply A → ℕ
@@ -40,12 +37,12 @@ abbrev pub itself : ℕ → ℕ
 itself n = n
 
 abbrev pub is_there : Option ℕ → ℕ
-is_there none = 0
-is_there (some v) = 1
+is_there None = 0
+is_there (Some v) = 1
 
 abbrev pub value_or : Option ℕ → ℕ → ℕ
-value_or none found = found
-value_or (some v) found = v
+value_or None found = found
+value_or (Some v) found = v
 
 -- Forms: 1 long, 2 short, 3 Version Negotiation
 abbrev pub form_number : Form → ℕ
@@ -72,7 +69,7 @@ leaving_places (answered form) found = form_places form
 
 -- Kinds by number: 0 names the first, 1 the second, another number none
 unfoldable pub named : {K : Type 0} → K → K → ℕ → Option K
-named first second n = cond (eqb n 0) (some first) (cond (eqb n 1) (some second) none)
+named first second n = cond (eqb n 0) (Some first) (cond (eqb n 1) (Some second) None)
 
 -- Senders: 0 a client, 1 a server
 abbrev pub sender_of : ℕ → Option Sender
@@ -92,13 +89,13 @@ unknown_call = 0xffffffffffffffff
 
 -- The close code by a refusal's number and the kind of call
 abbrev pub code_for : ℕ → Option Call → ℕ
-code_for refusal none = unknown_call
-code_for refusal (some call) = close_number (close_of refusal call)
+code_for refusal None = unknown_call
+code_for refusal (Some call) = close_number (close_of refusal call)
 
 -- An answer for a kind that is known, 255 for one that is not
 abbrev pub for_known : {K A : Type 0} → (K → Reply A) → Option K → Reply A
-for_known answer none = refused not_valid Nothing
-for_known answer (some k) = answer k
+for_known answer None = refused not_valid None
+for_known answer (Some k) = answer k
 
 -- The calls whose sender or presence is a number
 abbrev pub read_information_of : ℕ → List ℕ → Reply Found
@@ -114,11 +111,11 @@ decide_on readable accepted pairs barred version presence information =
 
 -- The own list of a record's attempt, 255 for a record that could not be an attempt's (`is_record`)
 abbrev pub own_answer : Record → Reply (List ℕ)
-own_answer r = cond (is_record r) (answered (own_of (attempt_of r))) (refused not_valid Nothing)
+own_answer r = cond (is_record r) (answered (own_of (attempt_of r))) (refused not_valid None)
 
 -- What the journal of a record's attempt tells (document 02, C-20), 255 for a record that could not be an attempt's
 abbrev pub journal_answer : Record → Reply Told
-journal_answer r = cond (is_record r) (answered (told_of r.journal)) (refused not_valid Nothing)
+journal_answer r = cond (is_record r) (answered (told_of r.journal)) (refused not_valid None)
 
 -- What the lent places of its answers hold after it
 abbrev pub leaving_answers : Reply Told → List ℕ → List ℕ

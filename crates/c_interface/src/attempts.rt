@@ -8,13 +8,13 @@ ghost use Rattle.c_interface.specs.Layout.{known_record, record_size};
 ghost use Rattle.c_interface.specs.Numbers.{returned, leaving, own_answer, journal_answer, leaving_answers, used_told, count_told};
 
 use crate::RECORD_SIZE;
+use crate::handing::hand_over;
 use attempt::MAX_ID;
 use c_record::attempts::{put_own, start_record, write_record_information};
 use c_record::coding::is_record;
 use c_record::events::step_record;
 use c_record::{NOT_VALID, Record, RecordAndRefusal};
 use journal::{Journal, PLACES, tell};
-use refusals::Written;
 use versions::MAX_TABLE;
 
 // One event in place. `kind` is 0 for a datagram, 1 for a processed packet, 2 for an outcome with information given,
@@ -67,16 +67,16 @@ pub extern "C" fn qv_own_list(
 }
 
 // The same of a record by value.
+#[tactic(auto, unfolding(c_record::specs::Records::own_record))]
 fn put_own_list(held: Record, versions: &mut [u32; MAX_TABLE], count: &mut usize) -> u32
     ensures answer { result ≡ returned (own_answer held) }
     ensures list { versions.new ≡ leaves (own_answer held) versions.old }
     ensures counted { count.new ≡ leaving length (own_answer held) count.old }
 {
-    let own = put_own(held, versions);
-    if !own.known {
+    let Some(own) = put_own(held, versions) else {
         return NOT_VALID;
-    }
-    *count = own.count;
+    };
+    *count = own;
     0
 }
 
@@ -109,13 +109,7 @@ fn put_client_information(
     ensures left { buffer.new ≡ leaves (record_information held reserved.now (length buffer.old)) buffer.old }
     ensures counted { count.new ≡ leaving length (record_information held reserved.now (length buffer.old)) count.old }
 {
-    match write_record_information(held, reserved, buffer) {
-        Written::Refused(refusal) => refusal.0 as u32,
-        Written::Count(sent_length) => {
-            *count = sent_length;
-            0
-        }
-    }
+    hand_over(write_record_information(held, reserved, buffer), count)
 }
 
 // What happened to an attempt: its last event answers, oldest first, each the number of a refusal or 0 for none; how many of
@@ -157,6 +151,7 @@ fn put_journal(held: Record, answers: &mut [u8; PLACES], used: &mut usize, count
 
 // A record with known values in every field, to compare the layout with.
 #[unsafe(no_mangle)]
+#[tactic(auto, unfolding(crate::specs::Layout::known_record))]
 pub extern "C" fn qv_known_record() -> Record
     ensures { result ≡ known_record }
 {

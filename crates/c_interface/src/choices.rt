@@ -1,6 +1,5 @@
 // Tables, pairs and choices as numbers.
-ghost use Rattle.std.proofs.Math.Option.{Option.some};
-ghost use Rattle.std.specs.Prelude.{◌≡◌, ◌≤◌};
+ghost use Rattle.std.specs.Prelude.{◌≡◌};
 ghost use Rattle.choosing.specs.Choice.{choose};
 ghost use Rattle.versions.specs.Pairs.{pairs_keep_rule};
 ghost use Rattle.versions.specs.Table.{table_keeps_rule};
@@ -8,14 +7,14 @@ ghost use Rattle.versions.specs.Version.{reserved};
 ghost use Rattle.lists.specs.Wire.{entries, entry_at};
 ghost use Rattle.c_record.specs.Numbers.{flag};
 ghost use Rattle.both_ends.specs.Configuration.{configuration_of, judged_configuration};
-ghost use Rattle.c_interface.specs.Numbers.{returned, leaving, itself, is_there, value_or, presence_of, decide_on, act_number};
+ghost use Rattle.c_interface.specs.Numbers.{returned, leaving, itself, is_there, value_or, decide_on, act_number};
 ghost use Rattle.c_interface.specs.Numbers.{part_in, version_in};
 
+use crate::handing::{hand_over, named};
 use both_ends::{Finding, judge_configuration};
 use c_record::NOT_VALID;
-use choosing::{Choice, choose_from, choose_from_bytes};
-use information::Presence;
-use lists::{Entry, entry_at};
+use choosing::choose_from;
+use lists::{OnWire, entry_at};
 use server::{Decision, choose_after_first_flight};
 use versions::pairs::are_pairs;
 use versions::table::{is_reserved, is_table};
@@ -25,7 +24,7 @@ use versions::table::{is_reserved, is_table};
 pub extern "C" fn qv_is_reserved(version: u32) -> u32
     ensures { result ≡ flag (reserved version) }
 {
-    if is_reserved(version) { 1 } else { 0 }
+    u32::from(is_reserved(version))
 }
 
 // 1 if the table of versions keeps its rule, else 0.
@@ -33,7 +32,7 @@ pub extern "C" fn qv_is_reserved(version: u32) -> u32
 pub extern "C" fn qv_is_table(table: &[u32]) -> u32
     ensures { result ≡ flag (table_keeps_rule table.now) }
 {
-    if is_table(table) { 1 } else { 0 }
+    u32::from(is_table(table))
 }
 
 // 1 if the table of pairs keeps its rule, else 0.
@@ -41,7 +40,7 @@ pub extern "C" fn qv_is_table(table: &[u32]) -> u32
 pub extern "C" fn qv_are_pairs(pairs: &[[u32; 2]]) -> u32
     ensures { result ≡ flag (pairs_keep_rule pairs.now) }
 {
-    if are_pairs(pairs) { 1 } else { 0 }
+    u32::from(are_pairs(pairs))
 }
 
 // The entry at a place of a list on the wire: 1 and the version, or 0 where the list ends before it, which leaves
@@ -52,11 +51,11 @@ pub extern "C" fn qv_entry(list: &[u8], place: usize, version: &mut u32) -> u32
     ensures left { version.new ≡ value_or (entry_at (entries list.now) place) version.old }
 {
     match entry_at(list, place) {
-        Entry::Version(found) => {
+        Some(found) => {
             *version = found;
             1
         }
-        Entry::Nothing => 0,
+        None => 0,
     }
 }
 
@@ -66,13 +65,7 @@ pub extern "C" fn qv_choose(table: &[u32], list: &[u32], version: &mut u32) -> u
     ensures answer { result ≡ returned (choose table.now list.now) }
     ensures left { version.new ≡ leaving itself (choose table.now list.now) version.old }
 {
-    match choose_from(table, list) {
-        Choice::Refused(refusal) => refusal.0 as u32,
-        Choice::Version(chosen) => {
-            *version = chosen;
-            0
-        }
-    }
+    hand_over(choose_from(table, list), version)
 }
 
 // The choice from a list as it lies on the wire. Refusals as `qv_choose`'s.
@@ -81,13 +74,7 @@ pub extern "C" fn qv_choose_from_bytes(table: &[u32], bytes: &[u8], version: &mu
     ensures answer { result ≡ returned (choose table.now (entries bytes.now)) }
     ensures left { version.new ≡ leaving itself (choose table.now (entries bytes.now)) version.old }
 {
-    match choose_from_bytes(table, bytes) {
-        Choice::Refused(refusal) => refusal.0 as u32,
-        Choice::Version(preferred) => {
-            *version = preferred;
-            0
-        }
-    }
+    hand_over(choose_from(table, OnWire(bytes)), version)
 }
 
 // The server's choice after a first flight in `version`, with versions that are barred for it; `presence` is 0 for missing
@@ -110,25 +97,16 @@ pub extern "C" fn qv_server_choice(
         (decide_on readable.now accepted.now pairs.now barred.now version presence information.now)
         decision.old }
 {
-    if 1 < presence {
+    let Some(given) = named(None, Some(information), presence) else {
         return NOT_VALID;
-    }
-    let given = presence_of(presence);
-    match choose_after_first_flight(
-        readable,
-        accepted,
-        pairs,
-        barred,
-        version,
-        given,
-        information,
-    ) {
-        Decision::Refused(refusal) => refusal.0 as u32,
-        Decision::Negotiate => {
+    };
+    match choose_after_first_flight(readable, accepted, pairs, barred, version, given) {
+        Err(refusal) => u32::from(refusal),
+        Ok(Decision::Negotiate) => {
             *decision = 0;
             0
         }
-        Decision::Use(chosen) => {
+        Ok(Decision::Use(chosen)) => {
             *decision = chosen;
             0
         }
@@ -157,13 +135,13 @@ pub extern "C" fn qv_judge_configuration(
         version.old }
 {
     match judge_configuration(readable, accepted, offered, available, pairs) {
-        Finding::Refused(refusal) => refusal.0 as u32,
-        Finding::Safe => put_finding(0, 0, part, version),
-        Finding::AcceptedNotOffered(found) => put_finding(1, found, part, version),
-        Finding::OfferedNotAccepted(found) => put_finding(2, found, part, version),
-        Finding::OfferedNotReadable(found) => put_finding(3, found, part, version),
-        Finding::AvailableNotOffered(found) => put_finding(4, found, part, version),
-        Finding::OfferedNotAvailable(found) => put_finding(5, found, part, version),
+        Err(refusal) => u32::from(refusal),
+        Ok(Finding::Safe) => put_finding(0, 0, part, version),
+        Ok(Finding::AcceptedNotOffered(found)) => put_finding(1, found, part, version),
+        Ok(Finding::OfferedNotAccepted(found)) => put_finding(2, found, part, version),
+        Ok(Finding::OfferedNotReadable(found)) => put_finding(3, found, part, version),
+        Ok(Finding::AvailableNotOffered(found)) => put_finding(4, found, part, version),
+        Ok(Finding::OfferedNotAvailable(found)) => put_finding(5, found, part, version),
     }
 }
 
@@ -176,15 +154,4 @@ fn put_finding(number: u32, found: u32, part: &mut u32, version: &mut u32) -> u3
     *part = number;
     *version = found;
     0
-}
-
-// Whether Version Information is given, by a number.
-fn presence_of(number: u32) -> Presence
-    requires { number ≤ 1 }
-    ensures { some result ≡ presence_of number }
-{
-    if number == 0 {
-        return Presence::Missing;
-    }
-    Presence::Given
 }

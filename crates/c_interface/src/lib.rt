@@ -3,20 +3,21 @@
 // requires anything: an unknown kind, or a record that could not be an attempt's, gets 255 and leaves all as found.
 #![tactic(auto)]
 
-ghost use Rattle.std.proofs.Math.Option.{Option.some};
-ghost use Rattle.std.specs.Prelude.{◌≡◌, ◌≤◌};
+ghost use Rattle.std.specs.Prelude.{◌≡◌};
 ghost use Rattle.c_interface.specs.Layout.{interface_version};
-ghost use Rattle.c_interface.specs.Numbers.{close_number, call_of, code_for};
+ghost use Rattle.c_interface.specs.Numbers.{call_of, code_for};
 
 pub mod attempts; // the attempt: start, events, own list, Version Information, journal
 pub mod choices; // tables, pairs and choices
+mod handing; // a result handed over to C
 pub mod transport; // variable-length integers, transport parameters
 pub mod wire; // headers, packets, Version Information
 pub mod words; // lists as words, the second way to choose
 
+use crate::handing::named;
 use attempt::MAX_ID;
 use journal::PLACES;
-use refusals::{Call, Close, Refusal};
+use refusals::{Call, Refusal};
 use versions::MAX_TABLE;
 
 // The version of this interface; it changes with every function, record or answer that changes.
@@ -48,32 +49,12 @@ pub extern "C" fn qv_interface_9() -> u32
 pub extern "C" fn qv_close_code(refusal: u32, call: u32) -> u64
     ensures { result ≡ code_for refusal (call_of call) }
 {
-    if 1 < call {
+    let Some(kind) = named(Call::Reading, Call::Writing, call) else {
         return UNKNOWN_CALL;
-    }
+    };
     if 255 < refusal {
         return 0;
     }
-    code_number(refusals::close_code(Refusal(refusal as u8), call_of(call)))
-}
-
-// The kind of a call, by a number.
-fn call_of(number: u32) -> Call
-    requires { number ≤ 1 }
-    ensures { some result ≡ call_of number }
-{
-    if number == 0 {
-        return Call::Reading;
-    }
-    Call::Writing
-}
-
-// A close code as a number: 0 where there is none.
-fn code_number(close: Close) -> u64
-    ensures { result ≡ close_number close }
-{
-    match close {
-        Close::Nothing => 0,
-        Close::With(code) => code,
-    }
+    // (`as`: Rust has no From between these widths; that the value fits is proved.)
+    refusals::close_code(Refusal(refusal as u8), kind).unwrap_or(0)
 }

@@ -7,11 +7,10 @@ ghost use Rattle.parameters.specs.Writing.{parameters_to_write};
 ghost use Rattle.c_interface.specs.Numbers.{returned, leaving};
 ghost use Rattle.c_interface.specs.Transport.{given_number, place_end, place_start, value_in, width_in};
 
-use integers::{Integer, read_integer, write_integer};
-use parameters::Carried;
+use crate::handing::hand_over;
+use integers::{read_integer, write_integer};
 use parameters_reader::read_parameters;
 use parameters_writer::write_parameters;
-use refusals::Written;
 
 // Reads the integer at the front of the bytes. Refusal: 81, which leaves all as found; else 0, its value, and the bytes
 // that it takes.
@@ -22,15 +21,12 @@ pub extern "C" fn qv_read_integer(bytes: &[u8], value: &mut u64, width: &mut usi
     ensures width { width.new ≡ leaving width_in (read_integer bytes.now) width.old }
 {
     match read_integer(bytes) {
-        Integer::Refused(refusal) => refusal.0 as u32,
-        Integer::Read {
-            value: number,
-            width: taken,
-        } => {
-            *value = number;
-            *width = taken;
+        Ok(integer) => {
+            *value = integer.value;
+            *width = integer.width;
             0
         }
+        Err(refusal) => u32::from(refusal),
     }
 }
 
@@ -42,13 +38,7 @@ pub extern "C" fn qv_write_integer(value: u64, buffer: &mut [u8], count: &mut us
     ensures left { buffer.new ≡ leaves (integer_to_write value (length buffer.old)) buffer.old }
     ensures counted { count.new ≡ leaving length (integer_to_write value (length buffer.old)) count.old }
 {
-    match write_integer(value, buffer) {
-        Written::Refused(refusal) => refusal.0 as u32,
-        Written::Count(integer_length) => {
-            *count = integer_length;
-            0
-        }
-    }
+    hand_over(write_integer(value, buffer), count)
 }
 
 // Finds Version Information in a sequence of transport parameters. Refusals: 80, 81, 82, 85, which leave all as found;
@@ -66,14 +56,14 @@ pub extern "C" fn qv_read_parameters(
     ensures end { end.new ≡ leaving place_end (read_parameters sequence.now) end.old }
 {
     match read_parameters(sequence) {
-        Carried::Refused(refusal) => refusal.0 as u32,
-        Carried::Missing => {
+        Err(refusal) => u32::from(refusal),
+        Ok(None) => {
             *found = 0;
             *start = 0;
             *end = 0;
             0
         }
-        Carried::At(place) => {
+        Ok(Some(place)) => {
             *found = 1;
             *start = place.start;
             *end = place.end;
@@ -97,11 +87,5 @@ pub extern "C" fn qv_write_parameters(
     ensures counted { count.new ≡ leaving length
         (parameters_to_write old.now value.now (length buffer.old)) count.old }
 {
-    match write_parameters(old, value, buffer) {
-        Written::Refused(refusal) => refusal.0 as u32,
-        Written::Count(sequence_length) => {
-            *count = sequence_length;
-            0
-        }
-    }
+    hand_over(write_parameters(old, value, buffer), count)
 }

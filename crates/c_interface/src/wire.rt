@@ -1,19 +1,18 @@
 // Headers, Version Negotiation packets and Version Information as numbers and buffers.
-ghost use Rattle.std.specs.Prelude.{[], ◌∷◌, ◌≡◌, ◌≤◌, length};
-ghost use Rattle.std.proofs.Math.Option.{Option.some};
+ghost use Rattle.std.specs.Prelude.{[], ◌∷◌, ◌≡◌, length};
 ghost use Rattle.refusals.specs.Written.{leaves};
 ghost use Rattle.invariants.specs.Header.{read_header};
 ghost use Rattle.negotiation.specs.Packet.{negotiation_packet};
 ghost use Rattle.c_interface.specs.Numbers.{returned, leaving, form_number, form_version, leaving_places};
-ghost use Rattle.c_interface.specs.Numbers.{sender_of, read_information_of, information_to_write_of, chosen_in, start_in, end_in};
+ghost use Rattle.c_interface.specs.Numbers.{read_information_of, information_to_write_of, chosen_in, start_in, end_in};
 
+use crate::handing::{hand_over, named};
 use c_record::NOT_VALID;
-use information::{Information, Sender, read_information, write_information};
+use information::{Sender, read_information, write_information};
 use invariants::Header;
 use invariants::reader::read_header;
 use lists::Span;
 use negotiation::write_version_negotiation;
-use refusals::Written;
 
 // Reads a header. Refusals: 11, 12, 13, which leave all as found; else 0. `form` is 1 long, 2 short, 3 Version
 // Negotiation; `version` is a long form's, else 0; `places` are start and end of the destination ID, the source ID
@@ -32,31 +31,35 @@ pub extern "C" fn qv_read_header(
     ensures places { places.new ≡ leaving_places (read_header datagram.now told) places.old }
 {
     match read_header(datagram, told) {
-        Header::Refused(refusal) => refusal.0 as u32,
-        Header::Long {
-            version: number,
-            destination,
-            source,
-            rest,
-        } => {
+        Err(refusal) => u32::from(refusal),
+        Ok(
+            Header::Long {
+                version: number,
+                destination,
+                source,
+                rest,
+            },
+        ) => {
             let found = places_of(destination, source, rest);
             *form = 1;
             *version = number;
             *places = found;
             0
         }
-        Header::Short { destination, rest } => {
+        Ok(Header::Short { destination, rest }) => {
             let found = places_of(destination, Span { start: 0, end: 0 }, rest);
             *form = 2;
             *version = 0;
             *places = found;
             0
         }
-        Header::VersionNegotiation {
-            destination,
-            source,
-            list,
-        } => {
+        Ok(
+            Header::VersionNegotiation {
+                destination,
+                source,
+                list,
+            },
+        ) => {
             let found = places_of(destination, source, list);
             *form = 3;
             *version = 0;
@@ -101,13 +104,8 @@ pub extern "C" fn qv_write_version_negotiation(
         (negotiation_packet received.now offered.now reserved.now unused_bits (length buffer.old))
         count.old }
 {
-    match write_version_negotiation(received, offered, reserved, unused_bits, buffer) {
-        Written::Refused(refusal) => refusal.0 as u32,
-        Written::Count(packet_length) => {
-            *count = packet_length;
-            0
-        }
-    }
+    let answer = write_version_negotiation(received, offered, reserved, unused_bits, buffer);
+    hand_over(answer, count)
 }
 
 // Reads Version Information; `sender` is 0 for a client's, 1 for a server's. Refusals: 255 (another sender), 31 to 36,
@@ -125,20 +123,17 @@ pub extern "C" fn qv_read_information(
     ensures start { start.new ≡ leaving start_in (read_information_of sender bytes.now) start.old }
     ensures end { end.new ≡ leaving end_in (read_information_of sender bytes.now) end.old }
 {
-    if 1 < sender {
+    let Some(from) = named(Sender::Client, Sender::Server, sender) else {
         return NOT_VALID;
-    }
-    match read_information(sender_of(sender), bytes) {
-        Information::Refused(refusal) => refusal.0 as u32,
-        Information::Read {
-            chosen: version,
-            available,
-        } => {
-            *chosen = version;
-            *start = available.start;
-            *end = available.end;
+    };
+    match read_information(from, bytes) {
+        Ok(information) => {
+            *chosen = information.chosen;
+            *start = information.available.start;
+            *end = information.available.end;
             0
         }
+        Err(refusal) => u32::from(refusal),
     }
 }
 
@@ -161,25 +156,8 @@ pub extern "C" fn qv_write_information(
         (information_to_write_of sender chosen available.now (length buffer.old))
         count.old }
 {
-    if 1 < sender {
+    let Some(by) = named(Sender::Client, Sender::Server, sender) else {
         return NOT_VALID;
-    }
-    match write_information(sender_of(sender), chosen, available, buffer) {
-        Written::Refused(refusal) => refusal.0 as u32,
-        Written::Count(information_length) => {
-            *count = information_length;
-            0
-        }
-    }
-}
-
-// The sender that a number names.
-fn sender_of(number: u32) -> Sender
-    requires { number ≤ 1 }
-    ensures { some result ≡ sender_of number }
-{
-    if number == 0 {
-        return Sender::Client;
-    }
-    Sender::Server
+    };
+    hand_over(write_information(by, chosen, available, buffer), count)
 }

@@ -5,7 +5,7 @@ use Prim.Native.Nat.{ℕ}
 use mathlib.Core.Bool.{Bool, true, false, cond, false≢true}
 use mathlib.Core.List.{List}
 use mathlib.Core.Logic.{◌↔◌}
-use mathlib.Core.Option.{Option, Option.none, Option.some}
+use Rattle.std.specs.Prelude.{Option, None, Some}
 use mathlib.Core.Path.{◌≡◌, refl, sym, ap, subst, ◌∙◌}
 use lib.Dec.{eqb}
 use lib.ListN.{take}
@@ -18,7 +18,7 @@ use Rattle.attempt.specs.Start.{Input, is_accepted, start_of}
 use Rattle.attempt.specs.Step.{After}
 use Rattle.attempt.specs.declared.End.{End}
 use Rattle.attempt.specs.declared.End.TheVariants.{Open, Completed, Closed}
-use Rattle.attempt.specs.declared.Event.{Event}
+use Rattle.attempt.specs.Event.{Event}
 use Rattle.attempt.proofs.Completing.{completed-in-table}
 use Rattle.attempt.proofs.Demand3Journaled.{demand-3-journaled, two-clients-journaled}
 use Rattle.client_verdict.proofs.Judged.{any-accepted}
@@ -42,9 +42,9 @@ same-completed x calls h =
 
 pub demand-3-record : (x : Input) (calls : List EventCall) (attempted : ℕ) →
     is_accepted x ≡ true →  -- for every start that isn't refused
-    acted_with x (events_of calls) ≡ some attempted →  -- a client that acted on a Version Negotiation packet
+    acted_with x (events_of calls) ≡ Some attempted →  -- a client that acted on a Version Negotiation packet
     (has_completed (run_calls (start_record x).left calls) ≡ true) ↔  -- has completed exactly when
-    ((h : Handshake) × (first_outcome (events_of calls) ≡ some h) ×  -- it was handed an outcome
+    ((h : Handshake) × (first_outcome (events_of calls) ≡ Some h) ×  -- it was handed an outcome
     Good x attempted h)  -- and the first one was good
 demand-3-record x calls v accepted acted =
     let d = demand-3-journaled x (events_of calls) v accepted acted in
@@ -85,8 +85,8 @@ record-completed-in-table r kind value bytes zero h = go (is_record r) refl (eve
         let left = (cond b (event_on r bytes o) (as_found r)).left in
         has_completed left ≡ true → elem left.end_value (take r.table_len r.table) ≡ true
     go false f o e = absurd (absent e)
-    go true f none e = absurd (absent e)
-    go true f (some ev) e =
+    go true f None e = absurd (absent e)
+    go true f (Some ev) e =
         let a = attempt_of r in
         let opened : a.end ≡ Open = rw zero in
         let ends = mark-one (journaled_step a ev bytes).attempt.end e in

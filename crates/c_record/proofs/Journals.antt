@@ -3,14 +3,14 @@
 use Prim.Native.Nat.{ℕ}
 use mathlib.Core.Bool.{Bool, true, false, cond}
 use mathlib.Core.List.{List, [], ◌∷◌, ◌++◌, append-nil}
-use mathlib.Core.Option.{Option, Option.none, Option.some}
+use Rattle.std.specs.Prelude.{Option, None, Some}
 use mathlib.Core.Path.{◌≡◌, refl, sym, ap, ◌∙◌}
 use lib.Dec.{eqb}
 use lib.Seq.{append_snoc}
 use Rattle.journal.specs.Journals.{journal_of}
 use Rattle.attempt.specs.Journaled.{journaled_step}
 use Rattle.attempt.specs.Start.{Input}
-use Rattle.attempt.specs.declared.Event.{Event}
+use Rattle.attempt.specs.Event.{Event}
 use Rattle.attempt.proofs.Journaled.{one-noted, answer-known, start-journal}
 use Rattle.c_record.specs.Calls.{EventCall, run_calls, numbers_to}
 use Rattle.c_record.specs.Numbers.{not_valid}
@@ -25,8 +25,8 @@ pub data Noting (xs : List ℕ) (r : Record) (s : Left) : Type 0 where
 module _ (xs : List ℕ) (r : Record) (h : r.journal ≡ journal_of xs) where
   event-noting : (bytes : List ℕ) (o : Option Event) → Noting xs r (event_on r bytes o)
   unfolding record_of attempt_of journaled_step
-  event-noting bytes none = nothing refl refl
-  event-noting bytes (some e) = number (answer-known (attempt_of r) e bytes) (one-noted xs (attempt_of r) e bytes h)
+  event-noting bytes None = nothing refl refl
+  event-noting bytes (Some e) = number (answer-known (attempt_of r) e bytes) (one-noted xs (attempt_of r) e bytes h)
 
   call-noting : (kind value : ℕ) (bytes : List ℕ) → Noting xs r (step_record r kind value bytes)
   unfolding step_record

@@ -1,5 +1,6 @@
 pub mod Applied
 pub mod Demand3
+pub mod Handing
 pub mod Journals
 pub mod Lossless
 pub mod OwnRecords

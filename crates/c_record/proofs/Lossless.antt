@@ -4,15 +4,14 @@
 use Prim.Native.Nat.{ℕ}
 use mathlib.Core.Bool.{true}
 use mathlib.Core.List.{List, [], ◌∷◌}
-use mathlib.Core.Option.{Option, Option.none, Option.some}
+use Rattle.std.specs.Prelude.{Option, None, Some}
 use mathlib.Core.Path.{◌≡◌, refl, sym, ap, ◌∙◌}
-use Rattle.information.specs.declared.Presence.TheVariants.{Missing, Given}
+use Rattle.information.specs.Presence.{Presence.Missing, Presence.Given}
 use Rattle.attempt.specs.Events.{journaled_run}
 use Rattle.attempt.specs.Journaled.{journaled_step}
 use Rattle.attempt.specs.Start.{Input, is_accepted, start_of}
 use Rattle.attempt.specs.declared.Attempt.{Attempt}
-use Rattle.attempt.specs.declared.Event.{Event}
-use Rattle.attempt.specs.declared.Event.TheVariants.{Datagram, PacketProcessed, Outcome}
+use Rattle.attempt.specs.Event.{Event, Event.Datagram, Event.PacketProcessed, Event.Outcome}
 use Rattle.c_record.specs.Calls.{EventCall, run_calls, event_before, events_of, kind_of, value_of}
 use Rattle.c_record.specs.Records.{Left, is_record, attempt_of, record_of, event_of, event_on, left_after, step_record, start_record}
 use Rattle.c_record.specs.declared.Record.{Record}
@@ -22,8 +21,8 @@ use Rattle.c_record.proofs.Records.{step-known, step-unknown}
 -- What an event leaves of a record is one, whatever the kind
 
 left-record : (r : Record) (bytes : List ℕ) (o : Option Event) → is_record r ≡ true → is_record (event_on r bytes o).left ≡ true
-left-record r bytes none h = h
-left-record r bytes (some e) h =
+left-record r bytes None h = h
+left-record r bytes (Some e) h =
     let a = attempt_of r in
     is-record (journaled_step a e bytes).attempt (step_fits a e bytes (record-fits r h))
 
@@ -34,7 +33,7 @@ event-leaves-record r kind value bytes h = rw h (left-record r bytes (event_of k
 
 -- Every event has a call
 
-pub event-back : (e : Event) → event_of (kind_of e) (value_of e) ≡ some e
+pub event-back : (e : Event) → event_of (kind_of e) (value_of e) ≡ Some e
 unfolding event_of
 event-back Datagram = refl
 event-back PacketProcessed = refl
@@ -43,14 +42,14 @@ event-back (Outcome v Missing) = refl
 
 -- One call leaves the record of what its event leaves, and the record itself where there is none
 
-left-known : (a : Attempt) (kind value : ℕ) (bytes : List ℕ) (e : Event) → RecordFits a → event_of kind value ≡ some e →
+left-known : (a : Attempt) (kind value : ℕ) (bytes : List ℕ) (e : Event) → RecordFits a → event_of kind value ≡ Some e →
     (step_record (record_of a) kind value bytes).left ≡ record_of (journaled_step a e bytes).attempt
 left-known a kind value bytes e f k =
     ap (λ (s : Left). s.left)
     (sym (step-known (record_of a) kind value bytes (is-record a f) k) ∙
     ap (λ (b : Attempt). left_after (journaled_step b e bytes)) (attempt-back a))
 
-left-unknown : (r : Record) (kind value : ℕ) (bytes : List ℕ) → event_of kind value ≡ none →
+left-unknown : (r : Record) (kind value : ℕ) (bytes : List ℕ) → event_of kind value ≡ None →
     (step_record r kind value bytes).left ≡ r
 left-unknown r kind value bytes k = ap (λ (s : Left). s.left) (sym (step-unknown r kind value bytes k))
 
@@ -63,9 +62,9 @@ same-run a (c ∷ calls) f = go (event_of c.kind c.value) refl (λ b. same-run b
         ((b : Attempt) → RecordFits b → run_calls (record_of b) calls ≡ record_of (journaled_run b (events_of calls))) →
         run_calls (step_record (record_of a) c.kind c.value c.bytes).left calls ≡
         record_of (journaled_run a (event_before o c.bytes (events_of calls)))
-    go none k later =
+    go None k later =
         ap (λ (r : Record). run_calls r calls) (left-unknown (record_of a) c.kind c.value c.bytes k) ∙ later a f
-    go (some e) k later =
+    go (Some e) k later =
         ap (λ (r : Record). run_calls r calls) (left-known a c.kind c.value c.bytes e f k) ∙
         later (journaled_step a e c.bytes).attempt (step_fits a e c.bytes f)
 

@@ -1,9 +1,10 @@
 -- Records that an attempt has: what the test of one tells, the attempt and the record back from each other, and that
 -- starts and events leave such records.
+use mir.Val.{bool_byte}
 use Prim.Native.Nat.{ℕ, ◌≤◌}
 use mathlib.Core.Bool.{Bool, true, false, cond, ◌&&◌}
 use mathlib.Core.List.{List}
-use mathlib.Core.Option.{Option.none, Option.some}
+use Rattle.std.specs.Prelude.{None, Some}
 use mathlib.Core.Path.{◌≡◌, refl, sym, ap, ◌∙◌}
 use native.Mathlib.Omega.{arith}
 use lib.Dec.{eqb, leb}
@@ -17,13 +18,14 @@ use Rattle.attempt.specs.Step.{unchanged, counts_fit, could_be_attempt}
 use Rattle.attempt.specs.declared.Attempt.{Attempt}
 use Rattle.attempt.specs.declared.End.{End}
 use Rattle.attempt.specs.declared.End.TheVariants.{Open, Completed, Closed}
-use Rattle.attempt.specs.declared.Event.{Event}
+use Rattle.attempt.specs.Event.{Event}
 use Rattle.attempt.proofs.Demand3.{start-accepted}
 use Rattle.attempt.proofs.Keeps.{Keeps, step_keeps, passing_kept, start-passes}
 use Rattle.c_record.specs.Numbers.{flag}
 use Rattle.c_record.specs.Records.{marks_fit, mark_fits, end_of, mark_of, mark_value, is_record, attempt_of, record_of, zeroed}
 use Rattle.c_record.specs.Records.{event_of, event_on, left_after, as_found, step_record}
 use Rattle.c_record.specs.declared.Record.{Record}
+use Rattle.attempt.specs.Attempt.{closed_with}
 
 -- The number of a closed end is a byte
 pub closed-value : (mark value : ℕ) → (mark ≡ 0 → ⊥) → (mark ≡ 1 → ⊥) → mark_fits mark value ≡ true → value ≤ 255
@@ -32,13 +34,13 @@ closed-value mark value n m h =
     leb-true _ _ (both_true (eqb mark 2) (leb value 255) e).1
 
 -- What the test of flags and mark tells
-pub record Fitting (r : Record) : Type 0 where
+pub record MarksFit (r : Record) : Type 0 where
   pub acted : leb r.acted 1 ≡ true
   pub heard : leb r.heard 1 ≡ true
   pub mark : mark_fits r.end_mark r.end_value ≡ true
 
-pub fitting : (r : Record) → marks_fit r ≡ true → Fitting r
-fitting r h =
+pub marks-told : (r : Record) → marks_fit r ≡ true → MarksFit r
+marks-told r h =
     let a = both_true (leb r.acted 1) _ h in
     let b = both_true (leb r.heard 1) _ a.1 in
     record { acted = a.0; heard = b.0; mark = b.1 }
@@ -80,7 +82,7 @@ pub record EndWhole (mark value : ℕ) (e : End) : Type 0 where
 end_whole : (m x : ℕ) → mark_fits m x ≡ true → EndWhole m x (end_of m x)
 end_whole m x h = go (eqb m 0) (eqb m 1) refl refl h where
   go : (b d : Bool) → eqb m 0 ≡ b → eqb m 1 ≡ d → cond b (eqb x 0) (cond d true (eqb m 2 && leb x 255)) ≡ true →
-      EndWhole m x (cond b Open (cond d (Completed x) (Closed x)))
+      EndWhole m x (cond b Open (cond d (Completed x) (closed_with x)))
   go true d e f k = record { mark-is = sym (eqb-true m 0 e); value-is = sym (eqb-true x 0 k); fits = refl }
   go false true e f k = record { mark-is = sym (eqb-true m 1 f); value-is = refl; fits = refl }
   go false false e f k =
@@ -90,7 +92,7 @@ end_whole m x h = go (eqb m 0) (eqb m 1) refl refl h where
 pub record-back : (r : Record) → marks_fit r ≡ true → record_of (attempt_of r) ≡ r
 unfolding record_of attempt_of
 record-back r h =
-    let f = fitting r h in
+    let f = marks-told r h in
     let e = end_whole r.end_mark r.end_value f.mark in
     rw (
       flag-whole r.acted f.acted,
@@ -103,6 +105,11 @@ record-back r h =
 
 abbrev pub RecordFits : Attempt → Type 0
 RecordFits a = (could_be_attempt a ≡ true) × (mark_fits (mark_of a.end) (mark_value a.end) ≡ true)
+
+-- A test as a byte is its flag
+pub flag_byte : (b : Bool) → bool_byte b ≡ flag b
+flag_byte false = refl
+flag_byte true = refl
 
 flag_small : (b : Bool) → leb (flag b) 1 ≡ true
 flag_small false = refl
@@ -123,7 +130,7 @@ pub record-fits : (r : Record) → is_record r ≡ true → RecordFits (attempt_
 unfolding attempt_of
 record-fits r h =
     let parts = record-parts r h in
-    (parts.1, (end_whole r.end_mark r.end_value (fitting r parts.0).mark).fits)
+    (parts.1, (end_whole r.end_mark r.end_value (marks-told r parts.0).mark).fits)
 
 -- every event leaves such an attempt
 fits_kept : (a : Attempt) → RecordFits a → Keeps RecordFits a
@@ -170,12 +177,12 @@ module _ (r : Record) (kind value : ℕ) (bytes : List ℕ) where
   unfolding step_record
   step-refused h = rw h
 
-  pub step-known : is_record r ≡ true → {e : Event} → event_of kind value ≡ some e →
+  pub step-known : is_record r ≡ true → {e : Event} → event_of kind value ≡ Some e →
       left_after (journaled_step (attempt_of r) e bytes) ≡ step_record r kind value bytes
   unfolding step_record
   step-known h k = rw (h, k)
 
-  pub step-unknown : event_of kind value ≡ none → as_found r ≡ step_record r kind value bytes
+  pub step-unknown : event_of kind value ≡ None → as_found r ≡ step_record r kind value bytes
   unfolding step_record
   step-unknown k = go (is_record r) where
     go : (b : Bool) → as_found r ≡ cond b (event_on r bytes (event_of kind value)) (as_found r)
@@ -188,7 +195,7 @@ module _ (r : Record) (kind value : ℕ) (bytes : List ℕ) where
     marks-record h = rw marks h
 
     -- the step for any record value, over the record
-    pub step-any-known : {e : Event} → event_of kind value ≡ some e →
+    pub step-any-known : {e : Event} → event_of kind value ≡ Some e →
         left_after (journaled_step_of_any (attempt_of r) e bytes) ≡ step_record r kind value bytes
     unfolding journaled_step_of_any
     step-any-known {e} k = go (could_be_attempt (attempt_of r)) refl where

@@ -1,12 +1,11 @@
 -- Lists of event calls on a record, as C makes them, and demand 3's terms read from them.
 use Rattle.std.specs.Prelude.{ℕ, Bool, cond, List, [], ◌∷◌, eqb}
-use Rattle.std.proofs.Math.Option.{Option, Option.none, Option.some}
+use Rattle.std.specs.Prelude.{Option, None, Some}
 use Rattle.attempt.specs.Demand.{CompletedBy}
 use Rattle.attempt.specs.Events.{Handed}
 use Rattle.attempt.specs.Start.{Input}
-use Rattle.information.specs.declared.Presence.TheVariants.{Missing, Given}
-use Rattle.attempt.specs.declared.Event.{Event}
-use Rattle.attempt.specs.declared.Event.TheVariants.{Datagram, PacketProcessed, Outcome}
+use Rattle.information.specs.Presence.{Presence.Missing, Presence.Given}
+use Rattle.attempt.specs.Event.{Event, Event.Datagram, Event.PacketProcessed, Event.Outcome}
 use Rattle.c_record.specs.Numbers.{not_valid}
 use Rattle.c_record.specs.Records.{event_of, step_record, start_record}
 use Rattle.c_record.specs.declared.Record.{Record}
@@ -31,8 +30,8 @@ numbers_to r (c ∷ calls) =
 
 -- The events of the calls; a call of an unknown kind is none
 abbrev pub event_before : Option Event → List ℕ → List Handed → List Handed
-event_before none bytes later = later
-event_before (some e) bytes later = record { event = e; bytes = bytes } ∷ later
+event_before None bytes later = later
+event_before (Some e) bytes later = record { event = e; bytes = bytes } ∷ later
 
 unfoldable pub events_of : List EventCall → List Handed
 events_of [] = []

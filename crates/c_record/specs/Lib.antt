@@ -1,4 +1,5 @@
 pub mod Calls
+pub mod Handing
 pub mod Numbers
 pub mod Records
 pub mod Verdicts

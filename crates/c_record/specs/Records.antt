@@ -1,12 +1,12 @@
 -- The attempt's record without enums, as C keeps it.
-use Rattle.std.specs.Prelude.{ℕ, Bool, true, cond, ◌&&◌, List, [], eqb, leb, replicate}
-use Rattle.std.proofs.Math.Option.{Option, Option.none, Option.some}
+use Rattle.std.specs.Prelude.{ℕ, Bool, true, cond, ◌&&◌, List, [], eqb, leb, length, replicate}
+use Rattle.std.specs.Prelude.{Option, None, Some}
 use Rattle.refusals.specs.Reply.{Reply, refuse, refusal_of}
 use Rattle.refusals.specs.declared.Call.TheVariants.{Writing}
 use Rattle.versions.specs.Limits.{max_table}
-use Rattle.information.specs.declared.Presence.TheVariants.{Missing, Given}
+use Rattle.information.specs.Presence.{Presence.Missing, Presence.Given}
 use Rattle.journal.specs.Journals.{places}
-use Rattle.attempt.specs.Attempt.{own_of}
+use Rattle.attempt.specs.Attempt.{own_of, closed_with}
 use Rattle.attempt.specs.Journaled.{journaled_step}
 use Rattle.attempt.specs.Limits.{max_id}
 use Rattle.attempt.specs.Start.{Input, start_of}
@@ -14,8 +14,7 @@ use Rattle.attempt.specs.Step.{After, could_be_attempt}
 use Rattle.attempt.specs.declared.Attempt.{Attempt}
 use Rattle.attempt.specs.declared.End.{End}
 use Rattle.attempt.specs.declared.End.TheVariants.{Open, Completed, Closed}
-use Rattle.attempt.specs.declared.Event.{Event}
-use Rattle.attempt.specs.declared.Event.TheVariants.{Datagram, PacketProcessed, Outcome}
+use Rattle.attempt.specs.Event.{Event, Event.Datagram, Event.PacketProcessed, Event.Outcome}
 use Rattle.client_information.specs.ClientInformation.{client_information_of}
 use Rattle.c_record.specs.Numbers.{flag, not_valid}
 use Rattle.c_record.specs.declared.Record.{Record}
@@ -26,17 +25,17 @@ abbrev pub mark_fits : ℕ → ℕ → Bool
 mark_fits mark value = cond (eqb mark 0) (eqb value 0) (cond (eqb mark 1) true (eqb mark 2 && leb value 255))
 
 abbrev pub end_of : ℕ → ℕ → End
-end_of mark value = cond (eqb mark 0) Open (cond (eqb mark 1) (Completed value) (Closed value))
+end_of mark value = cond (eqb mark 0) Open (cond (eqb mark 1) (Completed value) (closed_with value))
 
 abbrev pub mark_of : End → ℕ
 mark_of Open = 0
 mark_of (Completed v) = 1
-mark_of (Closed n) = 2
+mark_of (Closed r) = 2
 
 abbrev pub mark_value : End → ℕ
 mark_value Open = 0
 mark_value (Completed v) = v
-mark_value (Closed n) = n
+mark_value (Closed r) = r.0
 
 -- The attempt of a record
 unfoldable pub attempt_of : Record → Attempt
@@ -111,9 +110,9 @@ zeroed =
 -- value is the version in use of an outcome, and is not read else
 unfoldable pub event_of : ℕ → ℕ → Option Event
 event_of kind value =
-    cond (eqb kind 0) (some Datagram)
-    (cond (eqb kind 1) (some PacketProcessed)
-    (cond (eqb kind 2) (some (Outcome value Given)) (cond (eqb kind 3) (some (Outcome value Missing)) none)))
+    cond (eqb kind 0) (Some Datagram)
+    (cond (eqb kind 1) (Some PacketProcessed)
+    (cond (eqb kind 2) (Some (Outcome value Given)) (cond (eqb kind 3) (Some (Outcome value Missing)) None)))
 
 -- What an event leaves and answers. Its answer is noted (document 02, C-20); what gets 255 is left as found, its journal
 -- too
@@ -128,8 +127,8 @@ abbrev pub as_found : Record → Left
 as_found r = record { left = r; refusal = not_valid }
 
 abbrev pub event_on : Record → List ℕ → Option Event → Left
-event_on r bytes none = as_found r
-event_on r bytes (some e) = left_after (journaled_step (attempt_of r) e bytes)
+event_on r bytes None = as_found r
+event_on r bytes (Some e) = left_after (journaled_step (attempt_of r) e bytes)
 
 unfoldable pub step_record : Record → ℕ → ℕ → List ℕ → Left
 step_record r kind value bytes = cond (is_record r) (event_on r bytes (event_of kind value)) (as_found r)
@@ -144,6 +143,10 @@ shown_left s = record { left = s.attempt; refusal = s.refusal }
 -- The own list of its attempt; the empty list for a record that could not be an attempt's
 unfoldable pub own_record : Record → List ℕ
 own_record r = cond (is_record r) (own_of (attempt_of r)) []
+
+-- How many versions it has; none for a record that could not be an attempt's
+abbrev pub own_count : Record → Option ℕ
+own_count r = cond (is_record r) (Some (length (own_of (attempt_of r)))) None
 
 -- The Version Information that its attempt sends; 255 for a record that could not be an attempt's
 unfoldable pub record_information : Record → List (List ℕ) → ℕ → Reply (List ℕ)

@@ -1,7 +1,7 @@
 // One event on the record without enums: the verdict on its attempt, and the fields that it changes.
-ghost use Rattle.std.proofs.Math.Option.{Option.some};
-ghost use Rattle.std.specs.Prelude.{◌≡◌, ◌≤◌};
+ghost use Rattle.std.specs.Prelude.{◌≡◌};
 ghost use Rattle.c_record.specs.Records.{event_of, step_record, shown_left};
+ghost use Rattle.c_record.specs.Handing.{handed_in, handed_by};
 ghost use Rattle.c_record.specs.Verdicts.{acted_number, heard_number, mark_after, value_after, applied_record};
 
 use crate::coding::{decode, marks_fit};
@@ -10,7 +10,6 @@ use attempt::{Event, NOT_A_RECORD};
 use client_step::judge;
 use client_verdict::Verdict;
 use client_verdict::record::{attempted_after, journal_after, number_of};
-use information::Presence;
 
 // One event: the record that it leaves, and the number of its refusal, 0 for none. `kind` is 0 for a datagram, 1 for a
 // processed packet, 2 for an outcome with information given, 3 for one with it missing; `value` is an outcome's version
@@ -28,7 +27,7 @@ pub fn step_record(held: Record, kind: u32, value: u32, bytes: &[u8]) -> RecordA
     let heard = heard_after(held.heard, verdict);
     let mark = mark_after(held.end_mark, verdict);
     let number = value_after(held.end_value, verdict);
-    let refusal = number_of(verdict) as u32;
+    let refusal = u32::from(number_of(verdict));
     // From here on no test: the compiler then stores the fields that changed, and copies the record nowhere.
     let mut left = held;
     left.attempted = attempted;
@@ -51,45 +50,40 @@ fn judge_record(held: Record, kind: u32, value: u32, bytes: &[u8]) -> Verdict
     if !marks_fit(held) {
         return Verdict::Unchanged(NOT_A_RECORD);
     }
-    if 3 < kind {
-        return Verdict::Unchanged(NOT_A_RECORD);
+    match event_of(kind, value, bytes) {
+        Some(event) => judge(decode(held), event),
+        None => Verdict::Unchanged(NOT_A_RECORD),
     }
-    let event = event_of(kind, value);
-    judge(decode(held), event, bytes)
 }
 
-// The event of a known kind.
-fn event_of(kind: u32, value: u32) -> Event
-    requires { kind ≤ 3 }
-    ensures { event_of kind value ≡ some result }
+// The event of a kind, which is a number for C; none for another number. A processed packet and an outcome without information
+// have no bytes, whatever is handed over.
+#[tactic(auto, unfolding(crate::specs::Records::event_of))]
+fn event_of(kind: u32, value: u32, bytes: &[u8]) -> Option<Event>
+    ensures { handed_in result ≡ handed_by (event_of kind value) bytes.now }
 {
-    if kind == 0 {
-        return Event::Datagram;
-    }
-    if kind == 1 {
-        return Event::PacketProcessed;
-    }
-    if kind == 2 {
-        return Event::Outcome {
+    match kind {
+        0 => Some(Event::Datagram(bytes)),
+        1 => Some(Event::PacketProcessed),
+        2 => Some(Event::Outcome {
             in_use: value,
-            information: Presence::Given,
-        };
-    }
-    Event::Outcome {
-        in_use: value,
-        information: Presence::Missing,
+            information: Some(bytes),
+        }),
+        3 => Some(Event::Outcome {
+            in_use: value,
+            information: None,
+        }),
+        _ => None,
     }
 }
 
+// (Here and in `heard_after` a flag is a number and no bool: one of any value, which C's record may hold, stays as found.)
 fn acted_after(acted: u32, verdict: Verdict) -> u32
     ensures { result ≡ acted_number acted verdict }
 {
     match verdict {
-        Verdict::Unchanged(_) => acted,
-        Verdict::Closed(_) => acted,
         Verdict::Acted(_) => 1,
-        Verdict::Noted => acted,
-        Verdict::Completed(_) => acted,
+        _ => acted,
     }
 }
 
@@ -97,11 +91,8 @@ fn heard_after(heard: u32, verdict: Verdict) -> u32
     ensures { result ≡ heard_number heard verdict }
 {
     match verdict {
-        Verdict::Unchanged(_) => heard,
-        Verdict::Closed(_) => heard,
-        Verdict::Acted(_) => heard,
         Verdict::Noted => 1,
-        Verdict::Completed(_) => heard,
+        _ => heard,
     }
 }
 
@@ -109,11 +100,9 @@ fn mark_after(mark: u32, verdict: Verdict) -> u32
     ensures { result ≡ mark_after mark verdict }
 {
     match verdict {
-        Verdict::Unchanged(_) => mark,
         Verdict::Closed(_) => 2,
-        Verdict::Acted(_) => mark,
-        Verdict::Noted => mark,
         Verdict::Completed(_) => 1,
+        _ => mark,
     }
 }
 
@@ -121,10 +110,8 @@ fn value_after(number: u32, verdict: Verdict) -> u32
     ensures { result ≡ value_after number verdict }
 {
     match verdict {
-        Verdict::Unchanged(_) => number,
-        Verdict::Closed(refusal) => refusal.0 as u32,
-        Verdict::Acted(_) => number,
-        Verdict::Noted => number,
+        Verdict::Closed(refusal) => u32::from(refusal),
         Verdict::Completed(version) => version,
+        _ => number,
     }
 }

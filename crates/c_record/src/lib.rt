@@ -46,10 +46,3 @@ pub struct RecordAndRefusal {
     pub attempt: Record,
     pub refusal: u32,
 }
-
-// How many versions the own list of a record's attempt has, and whether the record could be an attempt's.
-#[derive(Drop)]
-pub struct OwnCount {
-    pub known: bool,
-    pub count: usize,
-}

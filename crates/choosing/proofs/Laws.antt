@@ -6,10 +6,12 @@ use Prim.Native.Nat.{ℕ, suc, ◌≤◌}
 use native.Mathlib.Nat.{ℕ_set}
 use native.Mathlib.Omega.{arith}
 use mathlib.Core.Bool.{Bool, true, false, cond, ◌||◌, or-true, false≢true, Bool-set}
-use mathlib.Core.List.{List, [], ◌∷◌, ◌++◌, append-nil, Option-to_list}
+use mathlib.Core.List.{List, [], ◌∷◌, ◌++◌, append-nil}
+use Rattle.std.specs.Prelude.{option_to_list}
 use mathlib.Core.List.{Perm, Permᴰ}
 use mathlib.Core.Logic.{∥∥₁_elim}
-use mathlib.Core.Option.{Option, Option.none, Option.some, some-injective, none-ne-some}
+use Rattle.std.specs.Prelude.{Option, None, Some}
+use Rattle.std.proofs.lemmas.Option.{same_Some, none-some}
 use mathlib.Core.Path.{◌≡◌, refl, sym, ap, ◌∙◌}
 use borrow.Author.Tests.{eq-eqb, eqb-true, le-ltb}
 use lib.Dec.{eqb}
@@ -67,15 +69,15 @@ length-reordered (Permᴰ.trans d e) = length-reordered d ∙ length-reordered e
 -- What is preferred
 
 -- It is an entry of the table and of the list
-pub preferred-held : (t l : List ℕ) (v : ℕ) → preferred t l ≡ some v → (elem v t ≡ true) × (elem v l ≡ true)
+pub preferred-held : (t l : List ℕ) (v : ℕ) → preferred t l ≡ Some v → (elem v t ≡ true) × (elem v l ≡ true)
 unfolding preferred
-preferred-held [] l v h = absurd (none-ne-some v h)
+preferred-held [] l v h = absurd (none-some v h)
 preferred-held (x ∷ t) l v h = go (elem x l) refl h (preferred-held t l v)
   where
-    go : (b : Bool) → elem x l ≡ b → cond b (some x) (preferred t l) ≡ some v →
-        (preferred t l ≡ some v → (elem v t ≡ true) × (elem v l ≡ true)) →
+    go : (b : Bool) → elem x l ≡ b → cond b (Some x) (preferred t l) ≡ Some v →
+        (preferred t l ≡ Some v → (elem v t ≡ true) × (elem v l ≡ true)) →
         (elem v (x ∷ t) ≡ true) × (elem v l ≡ true)
-    go true e h ih = let q : x ≡ v = some-injective x v h in rw (← q) (elem-front x t, e)
+    go true e h ih = let q : x ≡ v = same_Some x v h in rw (← q) (elem-front x t, e)
     go false e h ih = (elem-later v x t (ih h).0, (ih h).1)
 
 -- It depends only on which entries of the table the list holds
@@ -87,36 +89,36 @@ preferred-by-membership (v ∷ t) a b same =
     (same v (elem-front v t), preferred-by-membership t a b (λ w h. same w (elem-later w v t h)))
 
 -- A number that the list does not hold is not preferred
-preferred-absent : (t l : List ℕ) (v : ℕ) → elem v l ≡ false → elem v (Option-to_list (preferred t l)) ≡ false
-unfolding elem Option-to_list
+preferred-absent : (t l : List ℕ) (v : ℕ) → elem v l ≡ false → elem v (option_to_list (preferred t l)) ≡ false
+unfolding elem
 preferred-absent t l v absent = go (preferred t l) refl
   where
-    other : (w : ℕ) → preferred t l ≡ some w → (b : Bool) → eqb w v ≡ b → b ≡ false
-    other w e true q = sym (preferred-held t l v (e ∙ ap some (eqb-true w v q))).1 ∙ absent
+    other : (w : ℕ) → preferred t l ≡ Some w → (b : Bool) → eqb w v ≡ b → b ≡ false
+    other w e true q = sym (preferred-held t l v (e ∙ ap Some (eqb-true w v q))).1 ∙ absent
     other w e false q = refl
 
-    go : (o : Option ℕ) → preferred t l ≡ o → elem v (Option-to_list o) ≡ false
-    go none e = refl
-    go (some w) e = rw (other w e (eqb w v) refl)
+    go : (o : Option ℕ) → preferred t l ≡ o → elem v (option_to_list o) ≡ false
+    go None e = refl
+    go (Some w) e = rw (other w e (eqb w v) refl)
 
 -- From two lists joined: what is preferred of the two preferred
 pub preferred-joined : (t a b : List ℕ) →
-    preferred t (a ++ b) ≡ preferred t (Option-to_list (preferred t a) ++ Option-to_list (preferred t b))
-unfolding preferred elem Option-to_list
+    preferred t (a ++ b) ≡ preferred t (option_to_list (preferred t a) ++ option_to_list (preferred t b))
+unfolding preferred elem
 preferred-joined [] a b = refl
 preferred-joined (v ∷ t) a b =
     rw (elem-append v a b) (go (elem v a) (elem v b) refl refl (preferred-joined t a b))
   where
     of-a : List ℕ
-    of-a = Option-to_list (preferred t a)
+    of-a = option_to_list (preferred t a)
 
     of-b : List ℕ
-    of-b = Option-to_list (preferred t b)
+    of-b = option_to_list (preferred t b)
 
     go : (p q : Bool) → elem v a ≡ p → elem v b ≡ q → preferred t (a ++ b) ≡ preferred t (of-a ++ of-b) →
-        cond (p || q) (some v) (preferred t (a ++ b)) ≡
+        cond (p || q) (Some v) (preferred t (a ++ b)) ≡
         preferred (v ∷ t)
-        (Option-to_list (cond p (some v) (preferred t a)) ++ Option-to_list (cond q (some v) (preferred t b)))
+        (option_to_list (cond p (Some v) (preferred t a)) ++ option_to_list (cond q (Some v) (preferred t b)))
     go true true ea eb ih = rw (eq-eqb v v refl)
     go true false ea eb ih = rw (eq-eqb v v refl)
     go false true ea eb ih = rw (elem-inserted v v of-a [], eq-eqb v v refl)
@@ -195,10 +197,9 @@ choices-fit (refused n c) (answered w) = omega arith
 choices-fit (answered v) (refused m d) = omega arith
 choices-fit (answered v) (answered w) = omega arith
 
-choice_list-preferred : (o : Option ℕ) → choice_list (or_nothing_in_common o) ≡ Option-to_list o
-unfolding Option-to_list
-choice_list-preferred none = refl
-choice_list-preferred (some v) = refl
+choice_list-preferred : (o : Option ℕ) → choice_list (or_nothing_in_common o) ≡ option_to_list o
+choice_list-preferred None = refl
+choice_list-preferred (Some v) = refl
 
 -- "the choice from two lists joined is the choice from the two choices"
 pub choice-joined : (t a b : List ℕ) → length (a ++ b) ≤ max_list →
@@ -212,7 +213,7 @@ choice-joined t a b fits = go (table_keeps_rule t) refl
     chosen-fits = choices-fit (choose t a) (choose t b)
 
     listed : (l : List ℕ) → table_keeps_rule t ≡ true → length l ≤ max_list →
-        choice_list (choose t l) ≡ Option-to_list (preferred t l)
+        choice_list (choose t l) ≡ option_to_list (preferred t l)
     listed l keeps within = rw (choose-preferred t l keeps within) (choice_list-preferred (preferred t l))
 
     go : (k : Bool) → table_keeps_rule t ≡ k → choose t (a ++ b) ≡ choose t chosen

@@ -1,5 +1,4 @@
 pub mod Chosen
-pub mod Injective
 pub mod Judged
 pub mod Laws
 pub mod Rising

@@ -2,82 +2,65 @@
 #![tactic(auto)]
 
 ghost use Rattle.std.specs.Prelude.{◌≡◌};
-ghost use Rattle.choosing.specs.Choice.{choose, choice_reply, or_nothing_in_common, preferred};
-ghost use Rattle.lists.specs.Wire.{entries, entry_reply};
+ghost use Rattle.refusals.specs.Reply.{read_reply};
+ghost use Rattle.choosing.specs.Choice.{choose, preferred};
 
-use lists::{Entry, MAX_LIST, VERSION_BYTES};
+use lists::{MAX_LIST, OnWire, Versions};
 use refusals::Refusal;
 use slots::first_in_bytes;
-use versions::table::{contains, is_table};
+use versions::table::is_table;
 
-// What a choice answers: a refusal (40, 41, 42), or the chosen version.
-#[derive(Drop)]
-pub enum Choice {
-    Refused(Refusal),
-    Version(u32),
+// A list that is searched for the most preferred entry of a table.
+pub trait Searched: Versions {
+    // The first entry of any table that occurs in the list, or none. It judges neither of them.
+    fn first_of(self, table: &[u32]) -> Option<u32>
+        ensures { result ≡ preferred table.now (Self.versions self) };
 }
 
-// The first entry of any table that occurs in the list, or nothing. It judges neither of them.
-pub fn prefer(table: &[u32], list: &[u32]) -> Entry
-    ensures { entry_reply result ≡ preferred table.now list.now }
-{
-    let mut i = 0;
-    while i < table.len() {
-        let version = table[i];
-        if contains(list, version) {
-            return Entry::Version(version);
+impl<'a> Searched for &'a [u32] {
+    fn first_of(self, table: &[u32]) -> Option<u32> {
+        for version in table {
+            if self.holds(*version) {
+                return Some(*version);
+            }
         }
-        i += 1;
+        None
     }
-    Entry::Nothing
 }
 
-// The same from a list as it lies on the wire.
-pub fn prefer_in_bytes(table: &[u32], bytes: &[u8]) -> Entry
-    ensures { entry_reply result ≡ preferred table.now (entries bytes.now) }
-{
-    let place = first_in_bytes(table, bytes);
-    if table.len() <= place {
-        return Entry::Nothing;
+impl<'a, const N: usize> Searched for &'a [u32; N] {
+    fn first_of(self, table: &[u32]) -> Option<u32> {
+        let numbers: &[u32] = self;
+        numbers.first_of(table)
     }
-    let chosen = table[place];
-    Entry::Version(chosen)
+}
+
+impl<'a> Searched for OnWire<'a> {
+    #[tactic(auto, using(slots::proofs::Laws::found_inside, crate::proofs::Chosen::preferred_found))]
+    fn first_of(self, table: &[u32]) -> Option<u32> {
+        let place = first_in_bytes(table, self.0)?;
+        Some(table[place])
+    }
+}
+
+// The first entry of any table that occurs in the list, or none. It judges neither of them.
+pub fn prefer<L: Searched>(table: &[u32], list: L) -> Option<u32>
+    ensures { result ≡ preferred table.now (L.versions list) }
+{
+    list.first_of(table)
 }
 
 // The choice from a list. Refusals, in order: 40 (over MAX_LIST entries), 41 (the table breaks its rule),
 // 42 (nothing of the table is in the list).
-pub fn choose_from(table: &[u32], list: &[u32]) -> Choice
-    ensures { choice_reply result ≡ choose table.now list.now }
+#[tactic(auto, using(crate::proofs::Chosen::found_or_nothing), unfolding(crate::specs::Choice::choose))]
+pub fn choose_from<L: Searched>(table: &[u32], list: L) -> Result<u32, Refusal>
+    ensures { read_reply result ≡ choose table.now (L.versions list) }
 {
-    if MAX_LIST < list.len() {
-        return Choice::Refused(Refusal::LIST_TOO_LONG);
+    if MAX_LIST < list.count() {
+        return Err(Refusal::LIST_TOO_LONG);
     }
     if !is_table(table) {
-        return Choice::Refused(Refusal::BAD_TABLE);
+        return Err(Refusal::BAD_TABLE);
     }
-    choice_of(prefer(table, list))
-}
-
-// The choice from a list as it lies on the wire. Entries are whole fours; 1 to 3 bytes left over are no
-// entry. Refusals as `choose_from`'s.
-pub fn choose_from_bytes(table: &[u32], bytes: &[u8]) -> Choice
-    ensures { choice_reply result ≡ choose table.now (entries bytes.now) }
-{
-    if MAX_LIST < bytes.len() / VERSION_BYTES {
-        return Choice::Refused(Refusal::LIST_TOO_LONG);
-    }
-    if !is_table(table) {
-        return Choice::Refused(Refusal::BAD_TABLE);
-    }
-    choice_of(prefer_in_bytes(table, bytes))
-}
-
-// What was found, as a choice: 42 where it is nothing.
-fn choice_of(found: Entry) -> Choice
-    ensures { choice_reply result ≡ or_nothing_in_common (entry_reply found) }
-{
-    match found {
-        Entry::Version(version) => Choice::Version(version),
-        Entry::Nothing => Choice::Refused(Refusal::NOTHING_IN_COMMON),
-    }
+    prefer(table, list).ok_or(Refusal::NOTHING_IN_COMMON)
 }

@@ -3,7 +3,7 @@ use Prim.Native.Nat.{ℕ}
 use mathlib.Core.Bool.{true}
 use mathlib.Core.List.{List, [], ◌∷◌}
 use mathlib.Core.Logic.{◌↔◌}
-use mathlib.Core.Option.{Option.some}
+use Rattle.std.specs.Prelude.{Some}
 use mathlib.Core.Path.{◌≡◌, refl, sym, subst, ap, ◌∙◌}
 use Rattle.journal.specs.Journals.{journal_of}
 use Rattle.attempt.specs.Attempt.{is_completed}
@@ -31,14 +31,14 @@ run-in-place a (e ∷ es) =
 
 pub demand-3-in-place : (x : Input) (events : List Handed) (attempted : ℕ) (left : Attempt) →
     is_accepted x ≡ true →  -- for every start that isn't refused
-    acted_with x events ≡ some attempted →  -- a client that acted on a Version Negotiation packet
+    acted_with x events ≡ Some attempted →  -- a client that acted on a Version Negotiation packet
     LeftByAll (start_of x).attempt events left →  -- by the record that lies there
     (is_completed left.end ≡ true) ↔  -- has completed exactly when
-    ((h : Handshake) × (first_outcome events ≡ some h) ×  -- it was handed an outcome
+    ((h : Handshake) × (first_outcome events ≡ Some h) ×  -- it was handed an outcome
     Good x attempted h)  -- and the first one was good
 demand-3-in-place x events v left accepted acted all =
     subst
-    (λ (a : Attempt). (is_completed a.end ≡ true) ↔ ((h : Handshake) × (first_outcome events ≡ some h) × Good x v h))
+    (λ (a : Attempt). (is_completed a.end ≡ true) ↔ ((h : Handshake) × (first_outcome events ≡ Some h) × Good x v h))
     (sym (in-place-run (start_of x).attempt events left all)) (demand-3-journaled x events v accepted acted)
 
 pub two-clients-in-place : (available : List ℕ) (x y : Input) (events others : List Handed) (left right : Attempt) (v w : ℕ) →

@@ -1,13 +1,14 @@
 -- Those that are given, one by one: at each place i the rest `drop i given` answers for the whole. Each definition over them
 -- is read here at such a rest: what its first one decides, what it leaves, and the end.
 use Prim.Native.Nat.{ℕ, ◌+◌, ◌≤◌, ◌<◌}
-use mathlib.Core.Bool.{true, false, not, ◌&&◌}
-use mathlib.Core.List.{List, []}
-use mathlib.Core.Option.{Option.none, Option.some}
-use mathlib.Core.Path.{◌≡◌, ◌∙◌}
-use lib.Dec.{ltb}
+use mathlib.Core.Bool.{Bool, true, false, cond, not, ◌&&◌, ◌||◌}
+use mathlib.Core.List.{List, [], ◌∷◌}
+use Rattle.std.specs.Prelude.{Some, None}
+use mathlib.Core.Path.{◌≡◌, refl, ap, ◌∙◌}
+use lib.Dec.{eqb, ltb}
 use lib.ListN.{length, drop, get_or, drop_of_length-le}
 use borrow.Author.Tests.{eq-eqb, ne_eqb, lt-ltb, le-ltb}
+use Rattle.std.specs.List.{list_any}
 use Rattle.versions.specs.Version.{reserved}
 use Rattle.versions.proofs.Lists.{drop-next}
 use Rattle.attempt.specs.AsSent.{number_in, place_in, given_for, is_taken, each_given_keeps_rule}
@@ -18,7 +19,7 @@ one_at given i = get_or given i []
 
 -- `given_for` a place
 module _ (place : ℕ) (given : List (List ℕ)) (i : ℕ) where
-  pub given-here : i < length given → place_in (one_at given i) ≡ place → given_for (drop i given) place ≡ some (number_in (one_at given i))
+  pub given-here : i < length given → place_in (one_at given i) ≡ place → given_for (drop i given) place ≡ Some (number_in (one_at given i))
   unfolding given_for
   given-here h e = rw (drop-next given i [] h, eq-eqb _ _ e)
 
@@ -26,28 +27,17 @@ module _ (place : ℕ) (given : List (List ℕ)) (i : ℕ) where
   unfolding given_for
   given-next h e = rw (drop-next given i [] h, ne_eqb _ _ e)
 
-  pub given-end : length given ≤ i → given_for (drop i given) place ≡ none
+  pub given-end : length given ≤ i → given_for (drop i given) place ≡ None
   unfolding given_for
   given-end h = rw (drop_of_length-le given h)
 
--- `is_taken`, for one
-module _ (one : List ℕ) (given : List (List ℕ)) (i : ℕ) where
-  pub taken-number : i < length given → number_in (one_at given i) ≡ number_in one → is_taken one (drop i given) ≡ true
-  unfolding is_taken
-  taken-number h e = rw (drop-next given i [] h, eq-eqb _ _ e)
-
-  module _ (here : i < length given) (other : number_in (one_at given i) ≡ number_in one → ⊥) where
-    pub taken-place : place_in (one_at given i) ≡ place_in one → is_taken one (drop i given) ≡ true
-    unfolding is_taken
-    taken-place e = rw (drop-next given i [] here, ne_eqb _ _ other, eq-eqb _ _ e)
-
-    pub taken_next : (place_in (one_at given i) ≡ place_in one → ⊥) → is_taken one (drop i given) ≡ is_taken one (drop (i + 1) given)
-    unfolding is_taken
-    taken_next e = rw (drop-next given i [] here, ne_eqb _ _ other, ne_eqb _ _ e)
-
-  pub taken-end : length given ≤ i → is_taken one (drop i given) ≡ false
-  unfolding is_taken
-  taken-end h = rw (drop_of_length-le given h)
+-- `is_taken`: any other has its number or its place
+pub taken_any : (one : List ℕ) (given : List (List ℕ)) →
+    is_taken one given ≡ list_any (λ other. eqb (number_in other) (number_in one) || eqb (place_in other) (place_in one)) given
+unfolding is_taken
+taken_any one [] = refl
+taken_any one (other ∷ given) =
+    ap (λ b. (eqb (number_in other) (number_in one) || eqb (place_in other) (place_in one)) || b) (taken_any one given)
 
 -- `each_given_keeps_rule` for a list of so many entries: the tests of the one at the loop's place, in their order
 module _ (count : ℕ) (given : List (List ℕ)) (i : ℕ) (here : i < length given) where

@@ -1,7 +1,7 @@
 -- The list as sent, put into a buffer entry by entry: those that were put, and those from the place on, make up the whole.
 use Prim.Native.Nat.{ℕ, suc, ◌+◌, ◌*◌, ◌-◌, ◌≤◌, ◌<◌}
 use mathlib.Core.List.{List, [], ◌∷◌, ◌++◌, append_assoc, append-nil}
-use mathlib.Core.Option.{Option, Option.none, Option.some}
+use Rattle.std.specs.Prelude.{Option, None, Some}
 use mathlib.Core.Path.{◌≡◌, refl, sym, ap, ◌∙◌}
 use native.Mathlib.Nat.{sub-zero}
 use native.Mathlib.Numerals.{add-one}
@@ -25,13 +25,13 @@ length-sent-bytes own given = length-list_bytes (list_as_sent own given) ∙ ap 
 
 -- The own list from the place that is next
 own-next : (o : Option ℕ) (own : List ℕ) (next : ℕ) → own_after o (drop next own) ≡ drop (next_after o next) own
-own-next (some number) own next = refl
-own-next none own next = drop-drop 1 next own
+own-next (Some number) own next = refl
+own-next None own next = drop-drop 1 next own
 
 -- and that place is at most one further
 next-behind : (o : Option ℕ) (next place : ℕ) → next ≤ place → next_after o next ≤ place + 1
-next-behind (some number) next place h = omega arith
-next-behind none next place h = omega arith
+next-behind (Some number) next place h = omega arith
+next-behind None next place h = omega arith
 
 -- From a place on: the entry there, and those behind it
 sent-next :

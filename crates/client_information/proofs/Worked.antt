@@ -24,7 +24,7 @@ use Rattle.attempt.specs.OwnList.{may_be_answered, word_of, word_for, rows_for}
 use Rattle.attempt.specs.Start.{Input, input_of, start_of, opened}
 use Rattle.attempt.specs.Step.{same, on_datagram, step_of}
 use Rattle.attempt.specs.declared.Attempt.{Attempt}
-use Rattle.attempt.specs.declared.Event.TheVariants.{Datagram}
+use Rattle.attempt.specs.Event.{Event.Datagram}
 use Rattle.client_information.specs.ClientInformation.{information_as_sent, client_information_of}
 use Rattle.client_information.proofs.ReadAgain.{client-read}
 

@@ -1,8 +1,8 @@
 -- What a private function of the writer answers. No public promise names it.
 use Rattle.std.specs.Prelude.{ℕ, ◌+◌}
-use Rattle.std.proofs.Math.Option.{Option, Option.none, Option.some}
+use Rattle.std.specs.Prelude.{Option, None, Some}
 
 -- The place of the own version that is next after a place: one further, but where a number is given for that place
 abbrev pub next_after : Option ℕ → ℕ → ℕ
-next_after (some number) next = next
-next_after none next = next + 1
+next_after (Some number) next = next
+next_after None next = next + 1

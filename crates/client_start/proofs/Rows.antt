@@ -1,8 +1,8 @@
 -- The words of the own lists, as a start makes them: pair by pair from the pairs' end, then barred pair by barred pair from
 -- their end, one bit in one word.
-use Prim.Native.Nat.{ℕ, zero, suc, ◌+◌, ◌≤◌, ◌<◌}
+use Prim.Native.Nat.{ℕ, zero, suc, ◌+◌, ◌-◌, ◌≤◌, ◌<◌}
 use mathlib.Core.Bool.{Bool, true, false, cond, not, ◌&&◌, ◌||◌, false≢true}
-use mathlib.Core.List.{List, [], ◌∷◌}
+use mathlib.Core.List.{List, [], ◌∷◌, reverse}
 use mathlib.Core.Path.{◌≡◌, refl, sym, ap, ap₂, ◌∙◌}
 use native.Mathlib.Omega.{arith}
 use lib.Bits.{bit_or, bit_xor}
@@ -10,6 +10,7 @@ use lib.Dec.{eqb, leb}
 use lib.ListN.{length, take, drop, get_or, set, replicate, length-set, drop_of_length-le, get_or-append}
 use lib.Seq.{set-append_left}
 use borrow.Author.Tests.{eqb-true, eqb-false, eq-eqb, ne_eqb, not-true}
+use Rattle.std.proofs.lemmas.List.{get_or_default, get_or-reverse, length-reverse}
 use Rattle.refusals.proofs.Rules.{both_true}
 use Rattle.versions.specs.Limits.{max_pairs, max_table}
 use Rattle.versions.specs.Pairs.{from_of, to_of, paired, pair_keeps_rule, each_pair_keeps_rule, pairs_keep_rule}
@@ -241,3 +242,14 @@ rows_end ts ps = let le : length ps ≤ length ps = omega arith in rw (drop_of_l
 pub barred-end : (ts : List ℕ) (ps bs : List (List ℕ)) →
     padded max_table (rows_for ts ts ps []) ≡ padded max_table (rows_for ts ts ps (drop (length bs) bs))
 barred-end ts ps bs = let le : length bs ≤ length bs = omega arith in rw (drop_of_length-le bs le)
+
+-- A walk from the end: what the k-th turn reads, and where the rest then begins
+pub from_the_end : {A : Type 0} (xs : List A) (k : ℕ) (x : A) → (k < length (reverse xs)) × (x ≡ get_or (reverse xs) k x) →
+    (length xs - (k + 1) < length xs) × (length xs - k ≡ length xs - (k + 1) + 1) × ((d : A) → x ≡ get_or xs (length xs - (k + 1)) d)
+from_the_end xs k x h =
+    let within : k < length xs = rw (← length-reverse xs) h.0 in
+    let at : x ≡ get_or xs (length xs - (k + 1)) x = h.1 ∙ get_or-reverse xs k x within ∙ ap (λ (i : ℕ). get_or xs i x) (omega (arith, within)) in (
+      omega (arith, within),
+      omega (arith, within),
+      λ d. at ∙ get_or_default xs (length xs - (k + 1)) x d (omega (arith, within)),
+    )

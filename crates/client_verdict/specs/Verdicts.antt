@@ -46,7 +46,7 @@ heard_after heard (Completed v) = heard
 
 abbrev pub end_after : End → Verdict → End
 end_after e (Unchanged r) = e
-end_after e (Closed r) = end.Closed r.0
+end_after e (Closed r) = end.Closed r
 end_after e (Acted v) = e
 end_after e Noted = e
 end_after e (Completed v) = end.Completed v

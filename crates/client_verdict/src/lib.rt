@@ -2,15 +2,16 @@
 // it to the record; every test comes before the record is touched, so that the compiler copies it nowhere.
 #![tactic(auto)]
 
-ghost use Rattle.std.specs.Prelude.{◌≡◌};
-ghost use Rattle.attempt.specs.Step.{could_be_attempt};
+ghost use Rattle.std.specs.Prelude.{true, false, ◌≡◌};
+ghost use Rattle.std.specs.Option.{MatchOption};
+ghost use Rattle.attempt.specs.Step.{counts_fit, could_be_attempt};
 
 pub mod record; // a verdict, applied
 
 use attempt::{Attempt, MAX_ID};
 use refusals::Refusal;
 use versions::MAX_TABLE;
-use versions::table::holds;
+use versions::table::contains;
 
 // What an event does to an attempt, its journal left out: there the answer is noted, which follows from the verdict
 // (`record::journal_after`).
@@ -33,16 +34,29 @@ pub enum Verdict {
 pub fn could_be_attempt(attempt: Attempt) -> bool
     ensures { result ≡ could_be_attempt attempt }
 {
-    if MAX_TABLE < attempt.table_len {
-        return false;
-    }
-    if MAX_ID < attempt.destination_len {
-        return false;
-    }
-    if MAX_ID < attempt.source_len {
-        return false;
-    }
+    // The table is copied out: lent from a record that came by value, it would have the whole record copied.
     let table = attempt.table;
-    let count = attempt.table_len;
-    holds(&table[..count], attempt.attempted)
+    attempt.table_len <= MAX_TABLE
+        && attempt.destination_len <= MAX_ID
+        && attempt.source_len <= MAX_ID
+        && contains(&table[..attempt.table_len], attempt.attempted)
+}
+
+// A record whose counts are within its arrays.
+#[derive(Clone, Copy)]
+pub struct Fitting {
+    pub attempt: Attempt,
+    pub ghost fits: { counts_fit attempt ≡ true },
+}
+
+impl Fitting {
+    // A record value that could be an attempt's; none for another.
+    pub fn of(attempt: Attempt) -> Option<Fitting>
+        ensures { MatchOption result (could_be_attempt attempt ≡ false) (λ f. (could_be_attempt attempt ≡ true) × (f.attempt ≡ attempt)) }
+    {
+        if !could_be_attempt(attempt) {
+            return None;
+        }
+        Some(Fitting { attempt })
+    }
 }

@@ -9,6 +9,7 @@ ghost use Rattle.client_verdict.specs.Verdicts.{applied, journal_after, attempte
 use crate::Verdict;
 use attempt::{Answer, Attempt, End, NOT_A_RECORD, Stepped};
 use journal::{Journal, note};
+use refusals::Refusal;
 
 // The record and the answer after a verdict, on any record value. A verdict's refusal is the answer; it leaves the record
 // unchanged, or changes its end mark alone, but for the journal, in which each answer is noted. NOT_A_RECORD is not noted.
@@ -35,11 +36,8 @@ pub fn attempted_after(attempted: u32, verdict: Verdict) -> u32
     ensures { result ≡ attempted_after attempted verdict }
 {
     match verdict {
-        Verdict::Unchanged(_) => attempted,
-        Verdict::Closed(_) => attempted,
         Verdict::Acted(version) => version,
-        Verdict::Noted => attempted,
-        Verdict::Completed(_) => attempted,
+        _ => attempted,
     }
 }
 
@@ -47,11 +45,8 @@ fn acted_after(acted: bool, verdict: Verdict) -> bool
     ensures { result ≡ acted_after acted verdict }
 {
     match verdict {
-        Verdict::Unchanged(_) => acted,
-        Verdict::Closed(_) => acted,
         Verdict::Acted(_) => true,
-        Verdict::Noted => acted,
-        Verdict::Completed(_) => acted,
+        _ => acted,
     }
 }
 
@@ -59,11 +54,8 @@ fn heard_after(heard: bool, verdict: Verdict) -> bool
     ensures { result ≡ heard_after heard verdict }
 {
     match verdict {
-        Verdict::Unchanged(_) => heard,
-        Verdict::Closed(_) => heard,
-        Verdict::Acted(_) => heard,
         Verdict::Noted => true,
-        Verdict::Completed(_) => heard,
+        _ => heard,
     }
 }
 
@@ -71,11 +63,9 @@ fn end_after(end: End, verdict: Verdict) -> End
     ensures { result ≡ end_after end verdict }
 {
     match verdict {
-        Verdict::Unchanged(_) => end,
-        Verdict::Closed(refusal) => End::Closed(refusal.0),
-        Verdict::Acted(_) => end,
-        Verdict::Noted => end,
+        Verdict::Closed(refusal) => End::Closed(refusal),
         Verdict::Completed(version) => End::Completed(version),
+        _ => end,
     }
 }
 
@@ -95,23 +85,19 @@ pub fn number_of(verdict: Verdict) -> u8
     ensures { result ≡ refusal_of (reply_of verdict) }
 {
     match verdict {
-        Verdict::Unchanged(refusal) => refusal.0,
-        Verdict::Closed(refusal) => refusal.0,
-        Verdict::Acted(_) => 0,
-        Verdict::Noted => 0,
-        Verdict::Completed(_) => 0,
+        Verdict::Unchanged(refusal) | Verdict::Closed(refusal) => refusal.0,
+        _ => 0,
     }
 }
 
-fn answer_of(verdict: Verdict) -> Answer
+fn answer_of(verdict: Verdict) -> Result<Answer, Refusal>
     ensures { answer_reply result ≡ reply_of verdict }
 {
     match verdict {
-        Verdict::Unchanged(refusal) => Answer::Refused(refusal),
-        Verdict::Closed(refusal) => Answer::Refused(refusal),
-        Verdict::Acted(version) => Answer::Acted(version),
-        Verdict::Noted => Answer::Noted,
-        Verdict::Completed(version) => Answer::Completed(version),
+        Verdict::Unchanged(refusal) | Verdict::Closed(refusal) => Err(refusal),
+        Verdict::Acted(version) => Ok(Answer::Acted(version)),
+        Verdict::Noted => Ok(Answer::Noted),
+        Verdict::Completed(version) => Ok(Answer::Completed(version)),
     }
 }
 
@@ -126,23 +112,12 @@ fn put(
 ) -> Attempt
     ensures { result ≡ with_journal (put attempt attempted acted heard end) journal }
 {
-    let table = attempt.table;
-    let rows = attempt.rows;
-    let destination = attempt.destination;
-    let source = attempt.source;
     Attempt {
-        table,
-        table_len: attempt.table_len,
-        rows,
-        destination,
-        destination_len: attempt.destination_len,
-        source,
-        source_len: attempt.source_len,
-        original: attempt.original,
         attempted,
         acted,
         heard,
         end,
         journal,
+        ..attempt
     }
 }

@@ -2,7 +2,7 @@
 -- buffer.
 use Prim.Native.Nat.{ℕ, ◌*◌, ◌-◌, ◌≤◌}
 use mathlib.Core.List.{List, [], ◌∷◌, ◌++◌, append-nil}
-use mathlib.Core.Path.{◌≡◌, sym, ap, ◌∙◌}
+use mathlib.Core.Path.{◌≡◌, ap, ◌∙◌}
 use native.Mathlib.Omega.{arith}
 use native.Mathlib.Nat.{le_refl}
 use lib.ListN.{length, take, drop, length-drop, drop_of_length-le}
@@ -37,12 +37,3 @@ put_both chosen available buffer first rest room f r =
     ∙ ap (λ (l : List ℕ). list_bytes available ++ l) (drop-drop (version_bytes * length available) version_bytes buffer) in
     let front : take version_bytes first ≡ bytes_of chosen = ap (take version_bytes) one in
     rw (front, rest_end first version_bytes, others, append-nil (list_bytes available ++ drop (information_length available) buffer))
-
--- A writer's count and buffer, where the bytes were put
-pub put-counted : (chosen : ℕ) (available before after : List ℕ)
-    → after ≡ information_bytes chosen available ++ drop (information_length available) before
-    → (information_length available ≡ length (information_bytes chosen available))
-    × (after ≡ information_bytes chosen available ++ drop (length (information_bytes chosen available)) before)
-put-counted chosen available before after e =
-    let n = sym (length-information chosen available) in
-    (n, e ∙ ap (λ (k : ℕ). information_bytes chosen available ++ drop k before) n)

@@ -1,14 +1,14 @@
 -- RFC 9368 section 3, document 01 "Version Information".
-use Rattle.std.specs.Prelude.{ℕ, ◌+◌, ◌*◌, ◌-◌, ◌%◌, Bool, true, false, not, ◌&&◌, List, [], ◌∷◌, ◌++◌, eqb, ltb, length, take, drop}
+use Rattle.std.specs.Prelude.{ℕ, ◌+◌, ◌*◌, ◌-◌, ◌%◌, Bool, true, false, not, ◌&&◌, List, [], ◌∷◌, ◌++◌, eqb, ltb, length, take, drop, Result, Ok, Err}
 use Rattle.refusals.specs.Reply.{Reply, Reply.answered, refuse}
 use Rattle.refusals.specs.Rule.{Rule, Rule.◌when◌, judged}
 use Rattle.refusals.specs.declared.Call.TheVariants.{Reading, Writing}
+use Rattle.refusals.specs.declared.Refusal.{Refusal}
 use Rattle.versions.specs.Table.{elem}
 use Rattle.lists.specs.Wire.{number_at, entries, bytes_of, list_bytes, version_bytes}
 use Rattle.lists.specs.declared.Span.{Span}
 use Rattle.information.specs.Limits.{max_available, max_information}
 use Rattle.information.specs.declared.Information.{Information}
-use Rattle.information.specs.declared.Information.TheVariants.{Refused, Read}
 use Rattle.information.specs.declared.Sender.{Sender}
 use Rattle.information.specs.declared.Sender.TheVariants.{Client, Server}
 
@@ -38,6 +38,11 @@ is_client Server = false
 abbrev pub sender_rules : Sender → ℕ → List ℕ → List Rule
 sender_rules sender chosen available = (36 when is_client sender && not (elem chosen available)) ∷ []
 
+-- 34 to 36, which the reader and the writer judge alike
+abbrev pub version_rules : Sender → ℕ → List ℕ → List Rule
+version_rules sender chosen available =
+    (34 when eqb chosen 0) ∷ (35 when elem 0 available) ∷ sender_rules sender chosen available
+
 -- What the reader answers: Chosen, and where Available lies
 pub record Found : Type 0 where
   pub chosen : ℕ
@@ -56,10 +61,10 @@ read_information sender bytes =
     judged Reading (form_rules bytes ++ sender_rules sender (chosen_of bytes) (available_of bytes))
     (answered (found_in bytes))
 
--- The cases of `Information`
-abbrev pub information_reply : Information → Reply Found
-information_reply (Refused r) = refuse Reading r.0
-information_reply (Read c a) = answered (record { chosen = c; available = a })
+-- The result of the reader, its value as a `Found`
+abbrev pub information_reply : Result Information Refusal → Reply Found
+information_reply (Ok i) = answered (record { chosen = i.chosen; available = i.available })
+information_reply (Err r) = refuse Reading r.0
 
 -- "Chosen Version, 4 bytes, then 0 to 255 Available Versions of 4 bytes"
 abbrev pub information_bytes : ℕ → List ℕ → List ℕ

@@ -1,3 +1,4 @@
 pub mod Information
 pub mod Laws
 pub mod Limits
+pub mod Presence

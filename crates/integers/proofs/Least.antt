@@ -30,8 +30,8 @@ by_form P v p0 p1 p2 p3 =
     go false false true f f' g g' h h' = p2 (g' refl) (h refl)
     go false false false f f' g g' h h' = p3 (h' refl)
 
-pub shortest-lt : (v : ℕ) → shortest v < 4
-shortest-lt v = by_form (λ x. x < 4) v (λ _. lit< tt) (λ _ _. lit< tt) (λ _ _. lit< tt) (λ _. lit< tt)
+pub shortest_lt : (v : ℕ) → shortest v < 4
+shortest_lt v = by_form (λ x. x < 4) v (λ _. lit< tt) (λ _ _. lit< tt) (λ _ _. lit< tt) (λ _. lit< tt)
 
 last-holds : (v : ℕ) → v ≤ max_integer → v < held_below 3
 unfolding held_below width_of
@@ -49,7 +49,7 @@ shortest-first (suc zero) v h =
     by_form (λ x. x ≤ 1) v (λ _. zero-le) (λ _ _. le_refl 1) (λ l _. omega arith) (λ l. omega arith)
 shortest-first (suc (suc zero)) v h =
     by_form (λ x. x ≤ 2) v (λ _. zero-le) (λ _ _. lit≤ tt) (λ _ _. le_refl 2) (λ l. omega arith)
-shortest-first (suc (suc (suc form))) v h = let low = shortest-lt v in omega (arith, low)
+shortest-first (suc (suc (suc form))) v h = let low = shortest_lt v in omega (arith, low)
 
 -- The writer's width is the least of those that hold the integer
 pub least-width : (form v : ℕ) → v < held_below form → shortest_width v ≤ width_of form
@@ -67,7 +67,7 @@ shortest-width-one v = one-le-width (shortest v)
 
 pub shortest-width-top : (v : ℕ) → shortest_width v ≤ 8
 unfolding shortest_width
-shortest-width-top v = width-top (shortest v) (shortest-lt v)
+shortest-width-top v = width-top (shortest v) (shortest_lt v)
 
 -- What is written in the shortest width is read back, whatever follows
 pub shortest-back : (v : ℕ) (rest : List ℕ) → v ≤ max_integer
@@ -79,3 +79,6 @@ shortest-back v rest h = read_back (shortest v) v rest (shortest-holds v h)
 pub wide_from : (v : ℕ) → held_below 1 ≤ v → 4 ≤ shortest_width v
 unfolding shortest_width held_below width_of
 wide_from v h = by_form (λ x. 4 ≤ width_of x) v (λ l. omega arith) (λ _ l. omega arith) (λ _ _. lit≤ tt) (λ _. lit≤ tt)
+
+-- What the writer's steps follow from
+pub ruleset writing = (shortest_lt, shortest-holds, length-shortest)

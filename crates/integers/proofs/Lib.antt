@@ -1,5 +1,4 @@
 pub mod Held
-pub mod Injective
 pub mod Least
 pub mod Rising
 pub mod RoundTrip

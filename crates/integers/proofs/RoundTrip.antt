@@ -6,13 +6,12 @@ use mathlib.Core.List.{List, [], ◌∷◌, ◌++◌}
 use mathlib.Core.Path.{◌≡◌, refl, sym, ap, ◌∙◌, subst}
 use native.Mathlib.Decide.{le_ind}
 use native.Mathlib.Nat.{pow-suc, div-div-eq-div-mul, div-add-mod', div-one, div-lt_iff_lt-mul, mul-pos, le_refl, le_trans, le_of_lt, le_of_suc-le-suc, mul_assoc}
-use native.Mathlib.Numerals.{add-one}
 use native.Mathlib.Omega.{arith}
 use borrow.Author.Tests.{le-ltb, ltb-false}
 use lib.Dec.{lit<, ltb}
 use lib.ListN.{length, take, get_or, set, length-append}
 use lib.Pow.{pow_pos, pow_mono}
-use lib.Seq.{take_at, slice, slice-cons, take-suc, append_snoc, set_at, length-take-le}
+use lib.Seq.{take_at, take-suc, append_snoc, set_at, length-take-le}
 use Rattle.refusals.specs.Reply.{Reply.answered}
 use Rattle.refusals.specs.Rule.{Rule.◌when◌, judged}
 use Rattle.refusals.specs.declared.Call.TheVariants.{Reading}
@@ -105,11 +104,6 @@ bound-step i h =
     let e : i + 1 - 1 ≡ suc (i - 1) = omega arith in
     ap (λ (x : ℕ). 64 * 256 ^ x) e ∙ ap (λ (x : ℕ). 64 * x) (pow-suc 256 (i - 1)) ∙ sym (mul_assoc 64 (256 ^ (i - 1)) 256)
 
-pub next-byte : (s : List ℕ) (w i v : ℕ) → i < w → w ≤ length s
-    → from_bytes v (slice i w s) ≡ from_bytes (v * 256 + get_or s i 0) (slice (i + 1) w s)
-unfolding from_bytes
-next-byte s w i v h k = rw (slice-cons i w s 0 h k, add-one i) refl
-
 -- The writer's loop: one more byte in front of what is written
 pub push-low : (b : List ℕ) (i : ℕ) (x : ℕ) (tail : List ℕ) → 1 ≤ i → i ≤ length b
     → set (take i b ++ tail) (i - 1) x ≡ take (i - 1) b ++ (x ∷ tail)
@@ -147,3 +141,6 @@ read-within bytes f e = go (ltb (length bytes) (width_at bytes)) (ltb-false (len
     go false h e =
         let w : width_at bytes ≡ f.width = ap (λ (x : Found). x.width) (answered-injective found f e) in
         (subst (λ (x : ℕ). 1 ≤ x) w (one-le-width _), subst (λ (x : ℕ). x ≤ length bytes) w (h refl))
+
+-- What the reader's steps follow from
+pub ruleset reading = (one-le-width, width-top)

@@ -2,12 +2,11 @@
 -- first byte, 0 to 3; the word is ours.
 use Rattle.std.specs.Prelude.{ℕ, zero, suc, ◌+◌, ◌-◌, ◌*◌, ◌/◌, ◌%◌, ◌^◌, cond, List, [], ◌∷◌, ltb, length, get_or}
 use Rattle.std.proofs.Math.Seq.{slice}
-use Rattle.refusals.specs.Reply.{Reply, Reply.answered, refuse}
+use Rattle.refusals.specs.Reply.{Reply, Reply.answered}
 use Rattle.refusals.specs.Rule.{Rule, Rule.◌when◌, judged}
 use Rattle.refusals.specs.declared.Call.TheVariants.{Reading, Writing}
 use Rattle.integers.specs.Limits.{max_integer}
 use Rattle.integers.specs.declared.Integer.{Integer}
-use Rattle.integers.specs.declared.Integer.TheVariants.{Refused, Read}
 
 -- "the two most significant bits of the first byte to encode the base-2 logarithm of the integer encoding length in
 -- bytes"
@@ -28,9 +27,8 @@ unfoldable pub value_at : List ℕ → ℕ → ℕ
 value_at bytes width = from_bytes (get_or bytes 0 0 % 64) (slice 1 width bytes)
 
 -- What the reader answers: the value, and the bytes that it takes
-pub record Found : Type 0 where
-  pub value : ℕ
-  pub width : ℕ
+abbrev pub Found : Type 0
+Found = Integer
 
 -- "81 a field runs past the end"
 abbrev pub integer_rules : List ℕ → List Rule
@@ -41,11 +39,6 @@ unfoldable pub read_integer : List ℕ → Reply Found
 read_integer bytes =
     judged Reading (integer_rules bytes)
     (answered (record { value = value_at bytes (width_at bytes); width = width_at bytes }))
-
--- The cases of `Integer`
-abbrev pub integer_reply : Integer → Reply Found
-integer_reply (Refused r) = refuse Reading r.0
-integer_reply (Read v w) = answered (record { value = v; width = w })
 
 -- A form holds the integers below this: its width has all bits of its bytes but two
 unfoldable pub held_below : ℕ → ℕ

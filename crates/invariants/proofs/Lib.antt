@@ -1,4 +1,3 @@
-pub mod Headers
 pub mod Injective
 pub mod Negotiations
 pub mod Rising

@@ -8,9 +8,11 @@ use native.Mathlib.Omega.{arith}
 use borrow.Author.Tests.{ltb-false, eqb-true, eqb-false, not-true, not-false}
 use lib.Dec.{eqb, ltb}
 use lib.ListN.{length, length-drop}
+use Rattle.std.specs.Prelude.{Result, Ok}
 use Rattle.refusals.specs.Reply.{Reply, Reply.refused, Reply.answered, refuse}
 use Rattle.refusals.specs.Rule.{clear}
 use Rattle.refusals.specs.declared.Call.TheVariants.{Reading}
+use Rattle.refusals.specs.declared.Refusal.{Refusal}
 use Rattle.refusals.proofs.Rules.{both_true, neither, lowest-clear, lowest-applies}
 use Rattle.lists.specs.Limits.{max_list}
 use Rattle.lists.specs.Wire.{version_bytes}
@@ -60,8 +62,8 @@ pub readable-is-read : (d : List ℕ) → is_readable_negotiation d ≡ negotiat
 unfolding is_readable_negotiation
 readable-is-read d = read-by-clear d (clear (header_rules d 0)) refl
 
--- The same for an answer of `read_header`: false for each case but `VersionNegotiation`
-pub readable-by-reply : (d : List ℕ) (r : Header) → header_reply r ≡ read_header d 0
+-- The same for an answer of `read_header`: false for each result but `Ok` of a `VersionNegotiation`
+pub readable-by-reply : (d : List ℕ) (r : Result Header Refusal) → header_reply r ≡ read_header d 0
     → is_readable_negotiation d ≡ negotiation_in (header_reply r)
 readable-by-reply d r e = readable-is-read d ∙ ap negotiation_in (sym e)
 
@@ -130,6 +132,6 @@ answered-known d D S L e =
     }
 
 -- The same for an answer of `read_header`
-pub answered-by-reply : (d : List ℕ) (r : Header) (D S L : Span) → header_reply r ≡ read_header d 0 →
-    r ≡ VersionNegotiation D S L → Parts d D S L
+pub answered-by-reply : (d : List ℕ) (r : Result Header Refusal) (D S L : Span) → header_reply r ≡ read_header d 0 →
+    r ≡ Ok (VersionNegotiation D S L) → Parts d D S L
 answered-by-reply d r D S L e is = answered-known d D S L (sym e ∙ ap header_reply is)

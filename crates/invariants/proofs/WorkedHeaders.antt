@@ -1,8 +1,9 @@
 -- Worked headers, computed from the definitions alone: the datagrams that document 01 writes out, and the limits.
-use Prim.Native.Nat.{ℕ, suc}
+use Prim.Native.Nat.{ℕ, suc, ◌<◌}
 use mathlib.Core.Bool.{true, false}
 use mathlib.Core.List.{List, [], ◌∷◌, ◌++◌}
 use mathlib.Core.Path.{◌≡◌, refl, ap}
+use borrow.Author.Tests.{lt-ltb}
 use lib.Dec.{lit<}
 use lib.ListN.{length, replicate, length-replicate, length-drop}
 use Rattle.refusals.specs.Reply.{Reply.answered, refuse}
@@ -11,7 +12,6 @@ use Rattle.lists.specs.Wire.{entries}
 use Rattle.invariants.specs.Header.{Form.long, Form.short, Form.version_negotiation, span, is_long, version_of}
 use Rattle.invariants.specs.Header.{destination_length, source_length, destination_id, source_id, listed, read_header}
 use Rattle.invariants.specs.Limits.{max_datagram}
-use Rattle.invariants.proofs.Headers.{reads_over, reads-empty}
 
 -- "received `C0 00 00 00 0C 02 AA BB 01 CC FF`"
 abbrev pub received : List ℕ
@@ -107,6 +107,10 @@ short-headers = record { told-0 = refl; told-2 = refl; told-3 = refl; told-255 =
 
 -- A datagram of as many bytes as there may be, and one more: read by its length, not byte by byte
 
+reads_over : (d : List ℕ) (told : ℕ) → max_datagram < length d → read_header d told ≡ refuse Reading 11
+unfolding read_header
+reads_over d told h = rw (lt-ltb _ _ h)
+
 -- A long form that is 0 from its version on
 abbrev zeros : ℕ → List ℕ
 zeros n = 0x80 ∷ replicate n 0
@@ -128,9 +132,10 @@ one-over : (d : List ℕ) (told : ℕ) → length d ≡ 65536 → read_header d 
 one-over d told e = reads_over d told (rw e (lit< tt))
 
 pub lengths : Length
+unfolding read_header
 lengths =
     record {
-      empty = reads-empty [] 0 refl;
+      empty = refl;
       full = full-short (replicate 65535 64) (length-replicate {A = ℕ} 65535 64) refl;
       over = one-over (replicate 65536 64) 8 (length-replicate {A = ℕ} 65536 64);
       full-list = full-negotiation (zeros 65534) (length-zeros 65534) refl refl refl refl;

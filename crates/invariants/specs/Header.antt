@@ -1,13 +1,14 @@
 -- RFC 8999 sections 5.1, 5.2 and 6: what a datagram may hold, and what the reader answers.
-use Rattle.std.specs.Prelude.{ℕ, ◌+◌, ◌%◌, Bool, cond, not, ◌&&◌, ◌||◌, List, [], ◌∷◌, eqb, leb, ltb, length, get_or, take, drop}
+use Rattle.std.specs.Prelude.{ℕ, ◌+◌, ◌%◌, Bool, cond, not, ◌&&◌, ◌||◌, List, [], ◌∷◌, eqb, leb, ltb, length, get_or, take, drop, Result, Ok, Err}
 use Rattle.refusals.specs.Reply.{Reply, Reply.answered, refuse}
 use Rattle.refusals.specs.Rule.{Rule, Rule.◌when◌, judged, clear}
 use Rattle.refusals.specs.declared.Call.TheVariants.{Reading}
+use Rattle.refusals.specs.declared.Refusal.{Refusal}
 use Rattle.lists.specs.Wire.{number_at, entries, version_bytes}
 use Rattle.lists.specs.declared.Span.{Span}
 use Rattle.invariants.specs.Limits.{max_datagram, max_connection_id}
 use Rattle.invariants.specs.declared.Header.{Header}
-use Rattle.invariants.specs.declared.Header.TheVariants.{Refused, Long, Short, VersionNegotiation}
+use Rattle.invariants.specs.declared.Header.TheVariants.{Long, Short, VersionNegotiation}
 
 -- Document 01: "First byte 128 or more: long form"
 abbrev pub is_long : List ℕ → Bool
@@ -100,11 +101,15 @@ unfoldable pub read_header : List ℕ → ℕ → Reply Form
 read_header datagram told = judged Reading (header_rules datagram told) (answered (form_of datagram told))
 
 -- The cases of `Header`
-abbrev pub header_reply : Header → Reply Form
-header_reply (Refused r) = refuse Reading r.0
-header_reply (Long version destination source rest) = answered (long version destination source rest)
-header_reply (Short destination rest) = answered (short destination rest)
-header_reply (VersionNegotiation destination source list) = answered (version_negotiation destination source list)
+abbrev pub form_in : Header → Form
+form_in (Long version destination source rest) = long version destination source rest
+form_in (Short destination rest) = short destination rest
+form_in (VersionNegotiation destination source list) = version_negotiation destination source list
+
+-- The result of the reader
+abbrev pub header_reply : Result Header Refusal → Reply Form
+header_reply (Ok header) = answered (form_in header)
+header_reply (Err r) = refuse Reading r.0
 
 -- The datagram is a Version Negotiation packet that the reader reads (a long form ignores the told length)
 unfoldable pub is_readable_negotiation : List ℕ → Bool

@@ -6,17 +6,15 @@ mod fields; // the fields of a long form
 pub mod reader; // the header reader
 
 use lists::Span;
-use refusals::Refusal;
 
 // The most bytes that a datagram has.
 pub const MAX_DATAGRAM: usize = 65535;
 // The longest connection ID, in bytes, that RFC 8999 allows.
 pub const MAX_CONNECTION_ID: usize = 255;
 
-// What the header reader answers: a refusal (11, 12, 13), or the form with where its parts lie.
-#[derive(Drop)]
+// What the header reader finds: the form, with where its parts lie.
+#[derive(Clone, Copy)]
 pub enum Header {
-    Refused(Refusal),
     // The first byte is 128 or more, and the version is not 0.
     Long {
         version: u32,

@@ -14,14 +14,15 @@ use refusals::Refusal;
 // empty, or bytes are left over). Else the form, with the version of a long form and where each connection
 // ID and the rest lie. `told` is the length of a short form's destination connection ID; a long form
 // ignores it.
-pub fn read_header(datagram: &[u8], told: usize) -> Header
+#[tactic(auto, unfolding(crate::specs::Header::read_header))]
+pub fn read_header(datagram: &[u8], told: usize) -> Result<Header, Refusal>
     ensures { header_reply result ≡ read_header datagram.now told }
 {
     if MAX_DATAGRAM < datagram.len() {
-        return Header::Refused(Refusal::DATAGRAM_TOO_LONG);
+        return Err(Refusal::DATAGRAM_TOO_LONG);
     }
-    if datagram.len() == 0 {
-        return Header::Refused(Refusal::TRUNCATED);
+    if datagram.is_empty() {
+        return Err(Refusal::TRUNCATED);
     }
     if datagram[0] < 128 {
         read_short(datagram, told)
@@ -31,20 +32,21 @@ pub fn read_header(datagram: &[u8], told: usize) -> Header
 }
 
 // The short form of a datagram of 1 to MAX_DATAGRAM bytes.
-fn read_short(datagram: &[u8], told: usize) -> Header
+#[tactic(auto, unfolding(crate::specs::Header::read_header))]
+fn read_short(datagram: &[u8], told: usize) -> Result<Header, Refusal>
     requires datagram_nonzero { 0 < length datagram.now }
     requires datagram_len_bound { length datagram.now ≤ max_datagram }
     requires datagram_value { is_long datagram.now ≡ false }
     ensures { header_reply result ≡ read_header datagram.now told }
 {
     if MAX_CONNECTION_ID < told {
-        return Header::Refused(Refusal::TRUNCATED);
+        return Err(Refusal::TRUNCATED);
     }
     let destination_end = 1 + told;
     if datagram.len() < destination_end {
-        return Header::Refused(Refusal::TRUNCATED);
+        return Err(Refusal::TRUNCATED);
     }
-    Header::Short {
+    Ok(Header::Short {
         destination: Span {
             start: 1,
             end: destination_end,
@@ -53,11 +55,12 @@ fn read_short(datagram: &[u8], told: usize) -> Header
             start: destination_end,
             end: datagram.len(),
         },
-    }
+    })
 }
 
 // The long form of a datagram of 1 to MAX_DATAGRAM bytes, whatever the told length.
-fn read_long(datagram: &[u8]) -> Header
+#[tactic(auto, unfolding(crate::specs::Header::read_header))]
+fn read_long(datagram: &[u8]) -> Result<Header, Refusal>
     requires datagram_nonzero { 0 < length datagram.now }
     requires datagram_len_bound { length datagram.now ≤ max_datagram }
     requires datagram_value { is_long datagram.now ≡ true }
@@ -69,7 +72,7 @@ fn read_long(datagram: &[u8]) -> Header
     let source_start = 7 + destination_bytes;
     let rest_start = source_start + source_length(datagram);
     if length < rest_start {
-        return Header::Refused(Refusal::TRUNCATED);
+        return Err(Refusal::TRUNCATED);
     }
     let destination = Span {
         start: 6,
@@ -85,29 +88,26 @@ fn read_long(datagram: &[u8]) -> Header
     };
     let version = version_of(datagram);
     if version != 0 {
-        return Header::Long {
+        return Ok(Header::Long {
             version,
             destination,
             source,
             rest,
-        };
+        });
     }
     if not_whole(length - rest_start) {
-        return Header::Refused(Refusal::LIST_NOT_WHOLE);
+        return Err(Refusal::LIST_NOT_WHOLE);
     }
-    Header::VersionNegotiation {
+    Ok(Header::VersionNegotiation {
         destination,
         source,
         list: rest,
-    }
+    })
 }
 
 // Whether a list of so many bytes is empty, or has bytes left over.
 fn not_whole(count: usize) -> bool
     ensures { result ≡ (eqb count 0 || not (eqb (count % version_bytes) 0)) }
 {
-    if count == 0 {
-        return true;
-    }
-    count % VERSION_BYTES != 0
+    count == 0 || count % VERSION_BYTES != 0
 }

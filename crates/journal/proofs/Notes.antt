@@ -64,10 +64,6 @@ all-places l h =
 pub placed : (l : List ℕ) (k a : ℕ) → length l ≡ places → put_from 0 (each_place l) k a ≡ set l k a
 placed l k a h = ap (λ (m : List ℕ). put_from 0 m k a) (all-places l h) ∙ put-from 0 l k k a (omega arith)
 
--- The answers of a full array without the oldest, and one behind them
-pub eight : (l : List ℕ) (a : ℕ) → length l ≡ places → drop 1 (each_place l) ++ (a ∷ []) ≡ drop 1 l ++ (a ∷ [])
-eight l a h = ap (λ (m : List ℕ). drop 1 m ++ (a ∷ [])) (all-places l h)
-
 -- One more answer in the first unused place
 push : (xs : List ℕ) (a : ℕ) → length xs < places → set (in_places xs) (length xs) a ≡ in_places (xs ++ (a ∷ []))
 push xs a h =

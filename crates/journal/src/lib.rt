@@ -11,7 +11,8 @@ pub const PLACES: usize = 8;
 // Where the count of events stops.
 pub const MAX_EVENTS: u32 = 4294967295;
 
-// The journal. An answer is the number of a refusal, 0 for none; unused places are 0 and last.
+// The journal. An answer is the number of a refusal, 0 for none; unused places are 0 and last. (An array beside a count, and
+// numbers: it is a part of C's record, and there is no heap.)
 #[repr(C)]
 #[derive(Clone, Copy)]
 pub struct Journal {
@@ -19,7 +20,8 @@ pub struct Journal {
     pub count: u32,
 }
 
-// What a journal tells: its answers in order, how many of the places are used, the count of all events.
+// What a journal tells: its answers in order, how many of the places are used, the count of all events. The answers keep the
+// shape that the journal has, an array beside its count: a slice would borrow from a journal that comes by value.
 #[derive(Drop)]
 pub struct Told {
     pub answers: [u8; PLACES],
@@ -28,6 +30,7 @@ pub struct Told {
 }
 
 // The journal of no events, which a start's record has. It refuses nothing.
+#[tactic(auto, unfolding(crate::specs::Journals::journal_of, crate::specs::Journals::last_answers))]
 pub fn empty() -> Journal
     ensures { result ≡ journal_of [] }
 {
@@ -39,11 +42,13 @@ pub fn empty() -> Journal
 
 // The journal with one more answer, for any journal value. It refuses nothing: the oldest of eight answers goes, and the
 // count stops at MAX_EVENTS, while the answers go on.
+#[tactic(auto, unfolding(crate::specs::Journals::note_of))]
 pub fn note(journal: Journal, answer: u8) -> Journal
     ensures { result ≡ note_of journal answer }
 {
     let count = journal.count;
     let old = journal.answers;
+    // (`as`: Rust has no From between these widths; that the value fits is proved.)
     let place = count as usize;
     if place < PLACES {
         let answers = with_answer(old, place, answer);
@@ -91,36 +96,22 @@ fn one_of(new: bool, answer: u8, held: u8) -> u8
 fn without_oldest(old: [u8; PLACES], answer: u8) -> [u8; PLACES]
     ensures { result ≡ drop 1 old ++ (answer ∷ []) }
 {
-    let second = old[1];
-    let third = old[2];
-    let fourth = old[3];
-    let fifth = old[4];
-    let sixth = old[5];
-    let seventh = old[6];
-    let eighth = old[7];
+    let [_, second, third, fourth, fifth, sixth, seventh, eighth] = old;
     [second, third, fourth, fifth, sixth, seventh, eighth, answer]
 }
 
 // What a journal tells, for any journal value. It refuses nothing.
+#[tactic(auto, unfolding(crate::specs::Journals::told_of))]
 pub fn tell(journal: Journal) -> Told
     ensures { result ≡ told_of journal }
 {
     let answers = journal.answers;
     let count = journal.count;
-    let used = used_by(count as usize);
+    // (`as`: Rust has no From between these widths; that the value fits is proved.)
+    let used = PLACES.min(count as usize);
     Told {
         answers,
         used,
         count,
     }
-}
-
-// How many places the answers of so many events use.
-fn used_by(events: usize) -> usize
-    ensures { result ≡ min events places }
-{
-    if events < PLACES {
-        return events;
-    }
-    PLACES
 }

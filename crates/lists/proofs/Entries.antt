@@ -3,14 +3,15 @@ use Prim.Native.Nat.{ℕ, zero, suc, ◌+◌, ◌*◌, ◌/◌, ◌%◌, ◌^◌
 use mathlib.Core.Bool.{Bool, true, false, ◌&&◌, ◌||◌, false≢true}
 use mathlib.Core.Path.{◌≡◌, refl, sym, ap, ◌∙◌}
 use mathlib.Core.List.{List, [], ◌∷◌, ◌++◌, append-nil}
-use mathlib.Core.Option.{Option.none, Option.some}
+use Rattle.std.specs.Prelude.{None, Some}
 use native.Mathlib.Nat.{add-zero, div-add-mod'}
 use native.Mathlib.Numerals.{add-one}
 use native.Mathlib.Omega.{arith}
 use lib.Dec.{eqb, ltb}
 use lib.ListN.{length, take, drop, get_or, set, length-drop}
 use lib.Seq.{get_or-drop, drop-drop, take-suc, take-length, take_at, drop_at, length-take-le, sets-eq}
-use borrow.Author.Tests.{eqb-true, ltb-true, lt-ltb, le-leb, lt-leb, eq-eqb, ne_eqb}
+use Rattle.versions.proofs.Lists.{elem-here, elem_next}
+use borrow.Author.Tests.{eqb-true, eqb-false, ltb-true, lt-ltb, le-leb, lt-leb, eq-eqb, ne_eqb}
 use Rattle.versions.specs.Table.{elem}
 use Rattle.lists.specs.Wire.{number, number_at, version_bytes, entries, bytes_of, list_bytes, all_below, entry_at, after_put}
 
@@ -63,13 +64,13 @@ entry_at-drop (v ∷ vs) zero = refl
 entry_at-drop (v ∷ vs) (suc place) = entry_at-drop vs place
 
 -- Of a list of numbers: the entry at a place, or none past its end
-pub entry_at-there : (vs : List ℕ) (place : ℕ) → place < length vs → entry_at vs place ≡ some (get_or vs place 0)
+pub entry_at-there : (vs : List ℕ) (place : ℕ) → place < length vs → entry_at vs place ≡ Some (get_or vs place 0)
 unfolding entry_at
 entry_at-there [] place h = absurd (omega arith)
 entry_at-there (v ∷ vs) zero h = refl
 entry_at-there (v ∷ vs) (suc place) h = entry_at-there vs place (omega arith)
 
-pub entry_at-past : (vs : List ℕ) (place : ℕ) → length vs ≤ place → entry_at vs place ≡ none
+pub entry_at-past : (vs : List ℕ) (place : ℕ) → length vs ≤ place → entry_at vs place ≡ None
 unfolding entry_at
 entry_at-past [] place h = refl
 entry_at-past (v ∷ vs) zero h = absurd (omega arith)
@@ -81,12 +82,12 @@ entry_at-entries s place = entry_at-drop (entries s) place ∙ ap (λ (l : List 
 
 -- The entry at a place is the number there
 pub entry_at-some : (s : List ℕ) (place : ℕ) → place * version_bytes + version_bytes ≤ length s
-    → entry_at (entries s) place ≡ some (number_at s (place * version_bytes))
+    → entry_at (entries s) place ≡ Some (number_at s (place * version_bytes))
 unfolding entry_at
 entry_at-some s place h = entry_at-entries s place ∙ rw (entries-step s (place * version_bytes) h)
 
 pub entry_at-none : (s : List ℕ) (place : ℕ) → length s < place * version_bytes + version_bytes
-    → entry_at (entries s) place ≡ none
+    → entry_at (entries s) place ≡ None
 unfolding entry_at
 entry_at-none s place h = entry_at-entries s place ∙ rw (entries-end s (place * version_bytes) h)
 
@@ -324,3 +325,11 @@ after_put-room vs buffer h = rw (le-leb _ _ h)
 
 pub after_put-none : (vs buffer : List ℕ) → length buffer < version_bytes * length vs → after_put vs buffer ≡ buffer
 after_put-none vs buffer h = rw (lt-leb _ _ h)
+
+-- A turn of the search of a block: one entry more was looked at
+pub block-turn : (v : ℕ) (xs : List ℕ) (from k : ℕ) (found told : Bool) → from + k < length xs → told ≡ eqb (get_or xs (from + k) 0) v
+    → (found || elem v (drop (from + k) xs)) ≡ ((found || told) || elem v (drop (from + (k + 1)) xs))
+block-turn v xs from k true told h e = refl
+block-turn v xs from k false true h e = elem-here v xs (from + k) h (eqb-true _ _ (sym e))
+block-turn v xs from k false false h e =
+    elem_next v xs (from + k) h (eqb-false _ _ (sym e)) ∙ ap (λ (n : ℕ). elem v (drop n xs)) (omega arith)

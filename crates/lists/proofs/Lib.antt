@@ -1,4 +1,3 @@
 pub mod Entries
-pub mod Injective
 pub mod Places
 pub mod Turning

@@ -1,33 +1,32 @@
 -- Bytes put at places of a buffer, one run after the other: the buffer begins with what was put, and goes on as it
 -- was found.
 use Prim.Native.Nat.{ℕ, suc, ◌+◌, ◌-◌, ◌≤◌, ◌<◌}
-use mathlib.Core.Path.{◌≡◌, sym, ap, ◌∙◌}
+use mathlib.Core.Path.{◌≡◌, refl, sym, ap, ◌∙◌}
 use mathlib.Core.List.{List, [], ◌∷◌, ◌++◌, append_assoc, append-nil}
 use native.Mathlib.Nat.{zero-add}
 use native.Mathlib.Numerals.{add-one}
 use native.Mathlib.Omega.{arith}
 use lib.ListN.{length, take, drop, get_or, set, length-append, length-drop, drop_of_length-le}
-use lib.Seq.{take_at, drop_at, drop-drop, paste-suc, take-length, length-take-le, set_split}
+use lib.Seq.{take_at, drop_at, drop-drop, paste-suc, length-take-le, set_split}
+use borrow.Author.Tests.{le-leb}
 use borrow.Rule.Slice.PartMut.{put_mid}
+use Rattle.lists.specs.Wire.{after_values}
 use Rattle.versions.proofs.Lists.{part-rest}
 
 -- ---- a copy
 
 -- A turn of the loop that copies
-pub copy_step : (s d : List ℕ) (j : ℕ) → j < length s → j < length d
-    → set (take j s ++ drop j d) j (get_or s j 0) ≡ take (j + 1) s ++ drop (j + 1) d
-copy_step s d j hs hd =
+pub copy_step : {A : Type 0} (s d : List A) (j : ℕ) (x : A) → j < length s → j < length d
+    → set (take j s ++ drop j d) j (get_or s j x) ≡ take (j + 1) s ++ drop (j + 1) d
+copy_step s d j x hs hd =
     let z : 0 + j ≡ j = zero-add j in
     let y : 0 + suc j ≡ suc j = zero-add (suc j) in
-    let e = paste-suc d 0 s j 0 (rw z hd) hs in
+    let e = paste-suc d 0 s j x (rw z hd) hs in
     rw add-one (cc)
 
--- The whole is copied
-pub copied : (s d buffer : List ℕ) (j : ℕ) → j ≡ length s → buffer ≡ take j s ++ drop j d
-    → buffer ≡ s ++ drop (length s) d
-copied s d buffer j h e =
-    let t : take j s ≡ s = rw h (take-length s) in
-    e ∙ rw (t, h)
+-- Where there is room, values are put in front
+pub values_put : {A : Type 0} (values places : List A) → length values ≤ length places → after_values values places ≡ values ++ drop (length values) places
+values_put values places h = rw (le-leb (length values) (length places) h) refl
 
 -- ---- lengths
 

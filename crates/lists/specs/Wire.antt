@@ -1,9 +1,7 @@
 -- Versions on the wire. Document 01: "Numbers are big endian", a version is 4 bytes, a list of versions is its
 -- entries one after the other.
 use Rattle.std.specs.Prelude.{ℕ, zero, suc, ◌+◌, ◌*◌, ◌/◌, ◌%◌, Bool, true, cond, ◌&&◌, List, [], ◌∷◌, ◌++◌, leb, ltb, length, drop, get_or}
-use Rattle.std.proofs.Math.Option.{Option, Option.none, Option.some}
-use Rattle.lists.specs.declared.Entry.{Entry}
-use Rattle.lists.specs.declared.Entry.TheVariants.{Version, Nothing}
+use Rattle.std.specs.Prelude.{Option, None, Some}
 
 -- How many bytes a version takes
 abbrev pub version_bytes : ℕ
@@ -46,17 +44,16 @@ all_below bound (x ∷ xs) = ltb x bound && all_below bound xs
 
 -- The entry at a place, counted from 0, if there is one
 unfoldable pub entry_at : List ℕ → ℕ → Option ℕ
-entry_at [] place = none
-entry_at (v ∷ vs) zero = some v
+entry_at [] place = None
+entry_at (v ∷ vs) zero = Some v
 entry_at (v ∷ vs) (suc place) = entry_at vs place
-
--- The cases of `Entry`
-abbrev pub entry_reply : Entry → Option ℕ
-entry_reply (Version v) = some v
-entry_reply Nothing = none
 
 -- The buffer after a list was put at its front: whole where there is room, else as found
 abbrev pub after_put : List ℕ → List ℕ → List ℕ
 after_put versions buffer =
     cond (leb (version_bytes * length versions) (length buffer))
     (list_bytes versions ++ drop (version_bytes * length versions) buffer) buffer
+
+-- The places after values were put at their front: whole where there is room, else as found
+abbrev pub after_values : {A : Type 0} → List A → List A → List A
+after_values values places = cond (leb (length values) (length places)) (values ++ drop (length values) places) places

@@ -1,10 +1,12 @@
 // Versions on the wire: big endian, four bytes each; a list is its entries one after the other.
 #![tactic(auto)]
 
-ghost use Rattle.std.specs.Prelude.{◌≡◌, ◌+◌, ◌≤◌, ◌<◌, ◌*◌, ◌/◌, ◌^◌, ◌||◌, ◌++◌, leb, eqb, length, take, drop, get_or};
+ghost use Rattle.std.specs.Prelude.{ℕ, List, ◌≡◌, ◌+◌, ◌≤◌, ◌<◌, ◌*◌, ◌/◌, ◌^◌, ◌||◌, ◌++◌, leb, eqb, length, take, drop, get_or};
 ghost use Rattle.versions.specs.Table.{elem};
 ghost use Rattle.lists.specs.Limits.{block};
-ghost use Rattle.lists.specs.Wire.{number, number_at, turned, entries, entry_at, entry_reply, bytes_of, version_bytes, after_put};
+ghost use Rattle.lists.specs.Wire.{number, number_at, turned, entries, entry_at, bytes_of, version_bytes, after_put, after_values};
+
+use versions::table::contains;
 
 // The bytes that a version takes on the wire.
 pub const VERSION_BYTES: usize = 4;
@@ -13,11 +15,61 @@ pub const MAX_LIST: usize = 16382;
 // The entries that a search compares at a time.
 const BLOCK: usize = 64;
 
-// The version at a place of a list on the wire, or nothing where the list ends before it.
+// A list of versions: as numbers, or as it lies on the wire. A call that takes one answers by its versions alone.
+pub trait Versions: Copy {
+    // The versions, in their order.
+    ghost versions: { Self → List ℕ };
+
+    // How many there are.
+    fn count(self) -> usize
+        ensures { result ≡ length (versions self) };
+
+    // Whether a version is among them.
+    fn holds(self, version: u32) -> bool
+        ensures { result ≡ elem version (versions self) };
+}
+
+impl<'a> Versions for &'a [u32] {
+    ghost versions = { λ list. list.now };
+
+    fn count(self) -> usize {
+        self.len()
+    }
+
+    fn holds(self, version: u32) -> bool {
+        contains(self, version)
+    }
+}
+
+// The same of an array, as a caller writes a list out.
+impl<'a, const N: usize> Versions for &'a [u32; N] {
+    ghost versions = { λ list. list.now };
+
+    fn count(self) -> usize {
+        let list: &[u32] = self;
+        list.len()
+    }
+
+    fn holds(self, version: u32) -> bool {
+        let list: &[u32] = self;
+        contains(list, version)
+    }
+}
+
+// A list as it lies on the wire. Entries are whole fours; 1 to 3 bytes left over are no entry.
 #[derive(Clone, Copy)]
-pub enum Entry {
-    Version(u32),
-    Nothing,
+pub struct OnWire<'a>(pub &'a [u8]);
+
+impl<'a> Versions for OnWire<'a> {
+    ghost versions = { λ list. entries list.0.now };
+
+    fn count(self) -> usize {
+        self.0.len() / VERSION_BYTES
+    }
+
+    fn holds(self, version: u32) -> bool {
+        contains_in_bytes(self.0, version)
+    }
 }
 
 // Where a part of a byte string lies: from `start` up to, and not with, `end`.
@@ -27,28 +79,22 @@ pub struct Span {
     pub end: usize,
 }
 
-// Four bytes as a number.
+// Four bytes as a number. (By `from_be_bytes` a search reads an entry byte by byte; so it is one load.)
 pub fn big_endian(a: u8, b: u8, c: u8, d: u8) -> u32
     ensures { result ≡ number a b c d }
 {
-    wide(a) * 0x1000000 + (wide(b) * 0x10000 + (wide(c) * 0x100 + wide(d)))
+    u32::from(a) * 0x1000000 + (u32::from(b) * 0x10000 + (u32::from(c) * 0x100 + u32::from(d)))
 }
 
-fn wide(byte: u8) -> u32
-    ensures { result ≡ byte }
-{
-    byte as u32
-}
-
-// The entry at a place of a list on the wire, counted from 0. Entries are whole fours; 1 to 3 bytes left
-// over are no entry.
-pub fn entry_at(bytes: &[u8], place: usize) -> Entry
-    ensures { entry_reply result ≡ entry_at (entries bytes.now) place }
+// The entry at a place of a list on the wire, counted from 0; none where the list ends before it. Entries are whole fours;
+// 1 to 3 bytes left over are no entry.
+pub fn entry_at(bytes: &[u8], place: usize) -> Option<u32>
+    ensures { result ≡ entry_at (entries bytes.now) place }
 {
     if place < bytes.len() / VERSION_BYTES {
-        Entry::Version(number_at(bytes, place * VERSION_BYTES))
+        Some(number_at(bytes, place * VERSION_BYTES))
     } else {
-        Entry::Nothing
+        None
     }
 }
 
@@ -56,15 +102,13 @@ pub fn entry_at(bytes: &[u8], place: usize) -> Entry
 pub fn contains_in_bytes(bytes: &[u8], version: u32) -> bool
     ensures { result ≡ elem version (entries bytes.now) }
 {
-    let count = bytes.len() / VERSION_BYTES;
-    let mut i = 0;
-    while BLOCK <= count - i {
-        if block_contains(bytes, i, version) {
+    let blocks = bytes.len() / VERSION_BYTES / BLOCK;
+    for i in 0..blocks {
+        if block_contains(bytes, i * BLOCK, version) {
             return true;
         }
-        i += BLOCK;
     }
-    rest_contains(bytes, i, version)
+    rest_contains(bytes, blocks * BLOCK, version)
 }
 
 // Whether the version is among BLOCK entries from a place on. There is no early exit, so that the compiler compares
@@ -74,12 +118,8 @@ fn block_contains(bytes: &[u8], from: usize, version: u32) -> bool
     ensures { elem version (drop from (entries bytes.now)) ≡ (result || elem version (drop (from + block) (entries bytes.now))) }
 {
     let mut found = false;
-    let mut k = 0;
-    while k < BLOCK {
-        if is_entry(bytes, from + k, version) {
-            found = true;
-        }
-        k += 1;
+    for k in 0..BLOCK {
+        found |= is_entry(bytes, from + k, version);
     }
     found
 }
@@ -90,12 +130,10 @@ fn rest_contains(bytes: &[u8], from: usize, version: u32) -> bool
     ensures { result ≡ elem version (drop from (entries bytes.now)) }
 {
     let end = bytes.len() / VERSION_BYTES;
-    let mut i = from;
-    while i < end {
+    for i in from..end {
         if is_entry(bytes, i, version) {
             return true;
         }
-        i += 1;
     }
     false
 }
@@ -111,7 +149,8 @@ fn is_entry(bytes: &[u8], place: usize, version: u32) -> bool
     word == sought
 }
 
-// The entry at a place, turned: its bytes read little endian.
+// The entry at a place, turned: its bytes read little endian. (`slots` has the same: no public function requires anything,
+// so this one is not lent, and a test of the place would stand in the search.)
 fn word_at(bytes: &[u8], place: usize) -> u32
     requires { place < length bytes.now / version_bytes }
     ensures { (result ≡ turned (get_or (entries bytes.now) place 0)) × (get_or (entries bytes.now) place 0 < 2 ^ 32) }
@@ -124,11 +163,7 @@ fn word_at(bytes: &[u8], place: usize) -> u32
 pub fn turned(version: u32) -> u32
     ensures { result ≡ turned version }
 {
-    let first = (version / 0x1000000) as u8;
-    let second = (version / 0x10000 % 256) as u8;
-    let third = (version / 0x100 % 256) as u8;
-    let fourth = (version % 256) as u8;
-    big_endian(fourth, third, second, first)
+    version.swap_bytes()
 }
 
 // Puts a list at the front of the buffer and answers true; where there is no room it answers false and
@@ -141,10 +176,23 @@ pub fn put_list(versions: &[u32], buffer: &mut [u8]) -> bool
     if buffer.len() / VERSION_BYTES < count {
         return false;
     }
-    let mut i = 0;
-    while i < count {
+    for i in 0..count {
         put_at(buffer, i * VERSION_BYTES, versions[i]);
-        i += 1;
+    }
+    true
+}
+
+// Puts values at the front of the places and answers true; where there is no room it answers false and leaves the places as
+// found. (A loop: by `copy_from_slice` the archive for C would need `memmove` from outside.)
+pub fn put_values<T: Copy>(values: &[T], places: &mut [T]) -> bool
+    ensures answer { result ≡ leb (length values.now) (length places.old) }
+    ensures left { places.new ≡ after_values values.now places.old }
+{
+    if places.len() < values.len() {
+        return false;
+    }
+    for i in 0..values.len() {
+        places[i] = values[i];
     }
     true
 }
@@ -154,10 +202,7 @@ fn put_at(buffer: &mut [u8], at: usize, version: u32)
     requires { at + version_bytes ≤ length buffer.old }
     ensures { buffer.new ≡ take at buffer.old ++ bytes_of version ++ drop (at + version_bytes) buffer.old }
 {
-    buffer[at] = (version / 0x1000000 % 256) as u8;
-    buffer[at + 1] = (version / 0x10000 % 256) as u8;
-    buffer[at + 2] = (version / 0x100 % 256) as u8;
-    buffer[at + 3] = (version % 256) as u8;
+    buffer[at..at + VERSION_BYTES].copy_from_slice(&version.to_be_bytes());
 }
 
 // The number whose four bytes begin at a place.

@@ -2,22 +2,21 @@
 // every input.
 #![tactic(auto)]
 
-ghost use Rattle.std.specs.Prelude.{◌≡◌, ◌∷◌, ◌++◌, suc, ◌+◌, ◌≤◌, length, take, drop};
+ghost use Rattle.std.specs.Prelude.{◌≡◌, ◌∷◌, suc, ◌≤◌, length};
 ghost use Rattle.refusals.specs.Reply.{Reply.answered};
 ghost use Rattle.refusals.specs.Rule.{judged};
 ghost use Rattle.refusals.specs.declared.Call.TheVariants.{Writing};
 ghost use Rattle.refusals.specs.Written.{written_reply, counted, leaves};
 ghost use Rattle.lists.specs.Wire.{bytes_of};
-ghost use Rattle.invariants.specs.Header.{version_of, header_reply};
 ghost use Rattle.invariants.specs.Limits.{max_connection_id};
 ghost use Rattle.negotiation.specs.Limits.{max_unused_bits};
-ghost use Rattle.negotiation.specs.Packet.{list_sent, packet_length, packet_for, offer_rules, negotiation_packet};
-ghost use Rattle.negotiation.specs.Parts.{Lengths, writer_number, small_number, count_of, sent_entries, offer_answer};
+ghost use Rattle.negotiation.specs.Packet.{list_sent, offer_rules, negotiation_packet};
+ghost use Rattle.negotiation.specs.Parts.{count_of, packet_of, offer_answer};
 
 use invariants::Header;
 use invariants::reader::read_header;
-use lists::{VERSION_BYTES, put_list};
-use refusals::{Refusal, Written};
+use lists::{VERSION_BYTES, put_list, put_values};
+use refusals::Refusal;
 use versions::table::{are_reserved, contains, is_table};
 
 // The fewest bytes of a datagram that is answered: in version 1 no smaller one opens a connection (RFC 9000 section 14.1).
@@ -37,213 +36,145 @@ pub const MAX_UNUSED_BITS: u8 = 127;
 // are over MAX_UNUSED_BITS), 26 (the buffer is shorter than the packet, with all reserved numbers that are given),
 // 28 (there are over versions::MAX_RESERVED of them, one is not reserved or is there twice, or the received version
 // is among them). So a packet is never longer than the datagram that it answers.
+#[tactic(auto, unfolding(crate::specs::Packet::negotiation_packet, invariants::specs::Header::read_header))]
 pub fn write_version_negotiation(
     received: &[u8],
     offered: &[u32],
     reserved: &[u32],
     unused_bits: u8,
     buffer: &mut [u8],
-) -> Written
+) -> Result<usize, Refusal>
     ensures answer { written_reply result ≡ counted
         (negotiation_packet received.now offered.now reserved.now unused_bits (length buffer.old)) }
     ensures left { buffer.new ≡ leaves
         (negotiation_packet received.now offered.now reserved.now unused_bits (length buffer.old))
         buffer.old }
 {
-    // Told length 0: a short form is a 12 only where it is empty.
+    // Told length 0: a short form is a 12 only where it is empty. 13 is the header reader's alone: it has version 0.
     let header = read_header(received, 0);
-    if received.len() < MIN_ANSWERED_DATAGRAM {
-        return Written::Refused(of_small(header));
-    }
     match header {
-        Header::Refused(refusal) => {
-            Written::Refused(of_header(refusal, Refusal::VERSION_NEGOTIATION_RECEIVED))
+        Err(refusal) if refusal != Refusal::LIST_NOT_WHOLE => Err(refusal),
+        _ if received.len() < MIN_ANSWERED_DATAGRAM => Err(Refusal::DATAGRAM_TOO_SMALL),
+        Ok(Header::Short { .. }) => Err(Refusal::SHORT_FORM),
+        Err(_) | Ok(Header::VersionNegotiation { .. }) => {
+            Err(Refusal::VERSION_NEGOTIATION_RECEIVED)
         }
-        Header::Short {
-            destination: _,
-            rest: _,
-        } => Written::Refused(Refusal::SHORT_FORM),
-        Header::VersionNegotiation {
-            destination: _,
-            source: _,
-            list: _,
-        } => Written::Refused(Refusal::VERSION_NEGOTIATION_RECEIVED),
-        Header::Long {
-            version,
-            destination,
-            source,
-            rest: _,
-        } => write_long(
-            received,
-            version,
-            destination.end - destination.start,
-            source.end - source.start,
-            offered,
-            reserved,
-            unused_bits,
-            buffer,
-        ),
+        Ok(
+            Header::Long {
+                version,
+                destination,
+                source,
+                ..
+            },
+        ) => {
+            let answer = Answer {
+                destination: &received[destination.start..destination.end],
+                source: &received[source.start..source.end],
+                offered,
+                reserved,
+                unused_bits,
+            };
+            answer.write(version, buffer)
+        }
     }
 }
 
-// The refusal of a datagram that is too small to answer: the header reader's 11 or 12, else 20, whatever its form.
-fn of_small(header: Header) -> Refusal
-    ensures { result.0 ≡ small_number (header_reply header) }
-{
-    match header {
-        Header::Refused(refusal) => of_header(refusal, Refusal::DATAGRAM_TOO_SMALL),
-        Header::Short { .. } => Refusal::DATAGRAM_TOO_SMALL,
-        Header::VersionNegotiation { .. } => Refusal::DATAGRAM_TOO_SMALL,
-        Header::Long { .. } => Refusal::DATAGRAM_TOO_SMALL,
-    }
-}
-
-// The refusal that goes with one of the header reader's: its 11 or 12, and for 13, which is the reader's alone,
-// the other (a 13 has version 0, a 22 here where the datagram is large enough).
-fn of_header(refusal: Refusal, other: Refusal) -> Refusal
-    ensures { result.0 ≡ writer_number other.0 refusal.0 }
-{
-    if refusal.0 != Refusal::LIST_NOT_WHOLE.0 {
-        return refusal;
-    }
-    other
-}
-
-// Answers a complete long form of this version, with connection IDs of these lengths: judges 23 to 28, then
-// puts the packet.
-fn write_long(
-    received: &[u8],
-    version: u32,
-    destination: usize,
-    source: usize,
-    offered: &[u32],
-    reserved: &[u32],
+// What the packet that answers a long form is made of: the received connection IDs, and what the caller offers.
+#[derive(Clone, Copy)]
+struct Answer<'a> {
+    destination: &'a [u8],
+    source: &'a [u8],
+    offered: &'a [u32],
+    reserved: &'a [u32],
     unused_bits: u8,
-    buffer: &mut [u8],
-) -> Written
-    requires version { version ≡ version_of received.now }
-    requires lengths { Lengths received.now destination source }
-    ensures answer { written_reply result ≡ counted
-        (offer_answer received.now offered.now reserved.now unused_bits (length buffer.old)) }
-    ensures left { buffer.new ≡ leaves
-        (offer_answer received.now offered.now reserved.now unused_bits (length buffer.old))
-        buffer.old }
-{
-    let ids = destination + source;
-    let answer = judge_offer(version, ids, offered, reserved, unused_bits, buffer.len());
-    match answer {
-        Written::Refused(_) => {}
-        Written::Count(_) => put_packet(
-            received,
-            destination,
-            source,
-            offered,
-            reserved,
-            unused_bits,
-            buffer,
-        ),
-    }
-    answer
+    ghost destination_short: { length destination.now ≤ max_connection_id },
+    ghost source_short: { length source.now ≤ max_connection_id },
 }
 
-// The answer for connection IDs of so many bytes in all: the refusals 23 to 28.
-fn judge_offer(
-    version: u32,
-    ids: usize,
-    offered: &[u32],
-    reserved: &[u32],
-    unused_bits: u8,
-    room: usize,
-) -> Written
-    requires { ids ≤ max_connection_id + max_connection_id }
-    ensures { written_reply result ≡ judged Writing
-        (offer_rules version (count_of ids (sent_entries offered.now reserved.now))
-        offered.now reserved.now unused_bits room)
-        (answered (count_of ids (sent_entries offered.now reserved.now))) }
-{
-    if !is_table(offered) {
-        return Written::Refused(Refusal::BAD_OFFERED_TABLE);
+impl<'a> Answer<'a> {
+    // Answers a long form of this version: judges 23 to 28, then puts the packet.
+    #[tactic(auto, using(crate::proofs::Writing::offer_answers, crate::proofs::Writing::count_clear, crate::proofs::Writing::refused_leaves))]
+    fn write(&self, version: u32, buffer: &mut [u8]) -> Result<usize, Refusal>
+        ensures answer { written_reply result ≡ counted
+            (offer_answer version self.now.destination.now self.now.source.now self.now.offered.now self.now.reserved.now
+            self.now.unused_bits (length buffer.old)) }
+        ensures left { buffer.new ≡ leaves
+            (offer_answer version self.now.destination.now self.now.source.now self.now.offered.now self.now.reserved.now
+            self.now.unused_bits (length buffer.old))
+            buffer.old }
+    {
+        let count = self.judge(version, buffer.len())?;
+        self.put(buffer);
+        Ok(count)
     }
-    if contains(offered, version) {
-        return Written::Refused(Refusal::RECEIVED_VERSION_OFFERED);
-    }
-    if MAX_UNUSED_BITS < unused_bits {
-        return Written::Refused(Refusal::UNUSED_BITS_TOO_LARGE);
-    }
-    let count = 7 + (ids + VERSION_BYTES * (offered.len() + reserved.len()));
-    if room < count {
-        return Written::Refused(Refusal::NO_ROOM_FOR_PACKET);
-    }
-    if !are_reserved(reserved) {
-        return Written::Refused(Refusal::BAD_RESERVED_IN_PACKET);
-    }
-    if contains(reserved, version) {
-        return Written::Refused(Refusal::BAD_RESERVED_IN_PACKET);
-    }
-    Written::Count(count)
-}
 
-// Puts the packet at the buffer's front, part by part: IDs swapped, each behind its length. (There is room for
-// both lists, so `put_list` answers true.)
-fn put_packet(
-    received: &[u8],
-    destination: usize,
-    source: usize,
-    offered: &[u32],
-    reserved: &[u32],
-    unused_bits: u8,
-    buffer: &mut [u8],
-)
-    requires lengths { Lengths received.now destination source }
-    requires bits { unused_bits ≤ max_unused_bits }
-    requires room { packet_length received.now (list_sent offered.now reserved.now) ≤ length buffer.old }
-    ensures { buffer.new ≡ leaves
-        (answered (packet_for received.now (list_sent offered.now reserved.now) unused_bits))
-        buffer.old }
-{
-    let source_start = 7 + destination;
-    let second_id = 6 + source;
-    let list = 7 + source + destination;
-    let behind = list + VERSION_BYTES * offered.len();
-    put_front(128 + unused_bits, buffer);
-    put_id(received, source_start, source, &mut buffer[5..]);
-    put_id(received, 6, destination, &mut buffer[second_id..]);
-    put_list(offered, &mut buffer[list..]);
-    put_list(reserved, &mut buffer[behind..]);
+    // The packet's byte count, or the first of the refusals 23 to 28.
+    #[tactic(auto, using(crate::proofs::Writing::table_short))]
+    fn judge(&self, version: u32, room: usize) -> Result<usize, Refusal>
+        ensures { written_reply result ≡ judged Writing
+            (offer_rules version
+            (count_of self.now.destination.now self.now.source.now self.now.offered.now self.now.reserved.now)
+            self.now.offered.now self.now.reserved.now self.now.unused_bits room)
+            (answered (count_of self.now.destination.now self.now.source.now self.now.offered.now self.now.reserved.now)) }
+    {
+        if !is_table(self.offered) {
+            return Err(Refusal::BAD_OFFERED_TABLE);
+        }
+        if contains(self.offered, version) {
+            return Err(Refusal::RECEIVED_VERSION_OFFERED);
+        }
+        if MAX_UNUSED_BITS < self.unused_bits {
+            return Err(Refusal::UNUSED_BITS_TOO_LARGE);
+        }
+        let ids = self.destination.len() + self.source.len();
+        let count = 7 + (ids + VERSION_BYTES * (self.offered.len() + self.reserved.len()));
+        if room < count {
+            return Err(Refusal::NO_ROOM_FOR_PACKET);
+        }
+        if !are_reserved(self.reserved) || contains(self.reserved, version) {
+            return Err(Refusal::BAD_RESERVED_IN_PACKET);
+        }
+        Ok(count)
+    }
+
+    // Puts the packet at the buffer's front, part by part: IDs swapped, each behind its length. (There is room for
+    // all, so `put_list` answers true.)
+    fn put(&self, buffer: &mut [u8])
+        requires bits { self.now.unused_bits ≤ max_unused_bits }
+        requires room { count_of self.now.destination.now self.now.source.now self.now.offered.now self.now.reserved.now
+            ≤ length buffer.old }
+        ensures { buffer.new ≡ leaves
+            (answered
+            (packet_of self.now.destination.now self.now.source.now
+            (list_sent self.now.offered.now self.now.reserved.now) self.now.unused_bits))
+            buffer.old }
+    {
+        let second_id = 6 + self.source.len();
+        let list = 7 + self.source.len() + self.destination.len();
+        let behind = list + VERSION_BYTES * self.offered.len();
+        put_front(128 + self.unused_bits, buffer);
+        put_id(self.source, &mut buffer[5..]);
+        put_id(self.destination, &mut buffer[second_id..]);
+        put_list(self.offered, &mut buffer[list..]);
+        put_list(self.reserved, &mut buffer[behind..]);
+    }
 }
 
 // Puts the first byte and version 0 at the buffer's front.
 fn put_front(first: u8, buffer: &mut [u8])
     requires { 5 ≤ length buffer.old }
-    ensures { buffer.new ≡ (first ∷ bytes_of 0) ++ drop 5 buffer.old }
+    ensures { buffer.new ≡ leaves (answered (first ∷ bytes_of 0)) buffer.old }
 {
-    buffer[0] = first;
-    buffer[1] = 0;
-    buffer[2] = 0;
-    buffer[3] = 0;
-    buffer[4] = 0;
+    buffer[..5].copy_from_slice(&[first, 0, 0, 0, 0]);
 }
 
-// Puts the connection ID that starts at a place of the bytes, behind its length, at the buffer's front.
-fn put_id(bytes: &[u8], start: usize, count: usize, buffer: &mut [u8])
-    requires within { start + count ≤ length bytes.now }
-    requires short { count ≤ max_connection_id }
-    requires room { suc count ≤ length buffer.old }
-    ensures { buffer.new ≡ leaves (answered (count ∷ take count (drop start bytes.now))) buffer.old }
+// Puts a connection ID, behind its length, at the buffer's front. (There is room for it, so `put_values` answers true.)
+fn put_id(id: &[u8], buffer: &mut [u8])
+    requires short { length id.now ≤ max_connection_id }
+    requires room { suc (length id.now) ≤ length buffer.old }
+    ensures { buffer.new ≡ leaves (answered (length id.now ∷ id.now)) buffer.old }
 {
-    let end = start + count;
-    buffer[0] = count as u8;
-    put_bytes(&bytes[start..end], &mut buffer[1..]);
-}
-
-// Puts bytes at the buffer's front.
-fn put_bytes(from: &[u8], buffer: &mut [u8])
-    requires { length from.now ≤ length buffer.old }
-    ensures { buffer.new ≡ from.now ++ drop (length from.now) buffer.old }
-{
-    let mut i = 0;
-    while i < from.len() {
-        buffer[i] = from[i];
-        i += 1;
-    }
+    // (`as`: Rust has no From between these widths; that the value fits is proved.)
+    buffer[0] = id.len() as u8;
+    put_values(id, &mut buffer[1..]);
 }

@@ -2,7 +2,8 @@
 use Prim.Native.Nat.{ℕ, ◌^◌}
 use mathlib.Core.Bool.{Bool, true, false, cond, ◌||◌, true≢false, false≢true, or_assoc, or-false}
 use mathlib.Core.List.{List, [], ◌∷◌, ◌++◌}
-use mathlib.Core.Option.{Option, Option.none, Option.some, none-ne-some}
+use Rattle.std.specs.Prelude.{Option, None, Some}
+use Rattle.std.proofs.lemmas.Option.{none-some}
 use mathlib.Core.Path.{◌≡◌, refl, sym, ap, ◌∙◌}
 use borrow.Author.Tests.{eqb-true, eqb-false, ne_eqb}
 use lib.Dec.{eqb}
@@ -112,54 +113,54 @@ held-carrying value ps held =
 
 -- The value of ours, the first if there are more
 unfoldable pub our_value : List Content → Option (List ℕ)
-our_value [] = none
-our_value (p ∷ ps) = cond (is_ours p) (some p.value) (our_value ps)
+our_value [] = None
+our_value (p ∷ ps) = cond (is_ours p) (Some p.value) (our_value ps)
 
 -- Where ours was there, its value is the new one
-value-renewed : (value : List ℕ) (ps : List Content) → holds_ours ps ≡ true → our_value (renewed value ps) ≡ some value
+value-renewed : (value : List ℕ) (ps : List Content) → holds_ours ps ≡ true → our_value (renewed value ps) ≡ Some value
 unfolding holds_ours renewed our_value
 value-renewed value [] h = absurd (false≢true h)
 value-renewed value (p ∷ ps) h = go (is_ours p) refl h (value-renewed value ps)
   where
-    go : (b : Bool) → is_ours p ≡ b → (b || holds_ours ps) ≡ true → (holds_ours ps ≡ true → our_value (renewed value ps) ≡ some value)
-        → our_value (cond b (ours value) p ∷ renewed value ps) ≡ some value
+    go : (b : Bool) → is_ours p ≡ b → (b || holds_ours ps) ≡ true → (holds_ours ps ≡ true → our_value (renewed value ps) ≡ Some value)
+        → our_value (cond b (ours value) p ∷ renewed value ps) ≡ Some value
     go true k h next = refl
     go false k h next = rw k (next h)
 
 -- and where it was missing too
-value-last : (value : List ℕ) (ps : List Content) → holds_ours ps ≡ false → our_value (ps ++ (ours value ∷ [])) ≡ some value
+value-last : (value : List ℕ) (ps : List Content) → holds_ours ps ≡ false → our_value (ps ++ (ours value ∷ [])) ≡ Some value
 unfolding holds_ours our_value
 value-last value [] h = refl
 value-last value (p ∷ ps) h = let n = neither (is_ours p) (holds_ours ps) h in rw n.0 (value-last value ps n.1)
 
 -- Parameters that carry a value have it
-pub value-carrying : (value : List ℕ) (ps : List Content) → our_value (carrying value ps) ≡ some value
+pub value-carrying : (value : List ℕ) (ps : List Content) → our_value (carrying value ps) ≡ Some value
 value-carrying value ps =
-    by-holding (λ (new : List Content). our_value new ≡ some value) value ps (value-renewed value ps) (value-last value ps)
+    by-holding (λ (new : List Content). our_value new ≡ Some value) value ps (value-renewed value ps) (value-last value ps)
 
 -- The reader finds the value of ours
-pub value_found : (s : List ℕ) (fs : List Field) (value : List ℕ) → our_value (contents_in s fs) ≡ some value
-    → (place : Span) × (carried fs ≡ some place) × (bytes_in s place ≡ value)
+pub value_found : (s : List ℕ) (fs : List Field) (value : List ℕ) → our_value (contents_in s fs) ≡ Some value
+    → (place : Span) × (carried fs ≡ Some place) × (bytes_in s place ≡ value)
 unfolding our_value contents_in carried
-value_found s [] value e = absurd (none-ne-some _ e)
+value_found s [] value e = absurd (none-some _ e)
 value_found s (f ∷ fs) value e = go (eqb f.id version_information) e (value_found s fs value)
   where
-    go : (b : Bool) → cond b (some (bytes_in s f.value)) (our_value (contents_in s fs)) ≡ some value
-        → (our_value (contents_in s fs) ≡ some value → (place : Span) × (carried fs ≡ some place) × (bytes_in s place ≡ value))
-        → (place : Span) × (cond b (some f.value) (carried fs) ≡ some place) × (bytes_in s place ≡ value)
+    go : (b : Bool) → cond b (Some (bytes_in s f.value)) (our_value (contents_in s fs)) ≡ Some value
+        → (our_value (contents_in s fs) ≡ Some value → (place : Span) × (carried fs ≡ Some place) × (bytes_in s place ≡ value))
+        → (place : Span) × (cond b (Some f.value) (carried fs) ≡ Some place) × (bytes_in s place ≡ value)
     go true e next = (f.value, refl, cc)
     go false e next = next e
 
 -- The value that the reader finds is that of ours
-pub found-value : (s : List ℕ) (fs : List Field) (place : Span) → carried fs ≡ some place → our_value (contents_in s fs) ≡ some (bytes_in s place)
+pub found-value : (s : List ℕ) (fs : List Field) (place : Span) → carried fs ≡ Some place → our_value (contents_in s fs) ≡ Some (bytes_in s place)
 unfolding our_value contents_in carried
-found-value s [] place e = absurd (none-ne-some _ e)
+found-value s [] place e = absurd (none-some _ e)
 found-value s (f ∷ fs) place e = go (eqb f.id version_information) e (found-value s fs place)
   where
-    go : (b : Bool) → cond b (some f.value) (carried fs) ≡ some place
-        → (carried fs ≡ some place → our_value (contents_in s fs) ≡ some (bytes_in s place))
-        → cond b (some (bytes_in s f.value)) (our_value (contents_in s fs)) ≡ some (bytes_in s place)
-    go true e next = let same : f.value ≡ place = cc in ap (λ (part : Span). some (bytes_in s part)) same
+    go : (b : Bool) → cond b (Some f.value) (carried fs) ≡ Some place
+        → (carried fs ≡ Some place → our_value (contents_in s fs) ≡ Some (bytes_in s place))
+        → cond b (Some (bytes_in s f.value)) (our_value (contents_in s fs)) ≡ Some (bytes_in s place)
+    go true e next = let same : f.value ≡ place = cc in ap (λ (part : Span). Some (bytes_in s part)) same
     go false e next = next e
 
 -- ---- the others
@@ -195,16 +196,16 @@ renewed-missing value [] h = refl
 renewed-missing value (p ∷ ps) h = let n = neither (is_ours p) (holds_ours ps) h in rw (n.0, renewed-missing value ps n.1) refl
 
 -- Where ours is there once, its own value anew changes nothing
-renewed-same : (value : List ℕ) (ps : List Content) → our_value ps ≡ some value → repeats (ids_in ps) ≡ false
+renewed-same : (value : List ℕ) (ps : List Content) → our_value ps ≡ Some value → repeats (ids_in ps) ≡ false
     → (holds_ours ps ≡ true) × (renewed value ps ≡ ps)
 unfolding our_value repeats ids_in holds_ours renewed
-renewed-same value [] e once = absurd (none-ne-some _ e)
+renewed-same value [] e once = absurd (none-some _ e)
 renewed-same value (p ∷ ps) e once =
     let o = neither (elem p.id (ids_in ps)) (repeats (ids_in ps)) once in
     go (is_ours p) (eqb-true _ _) e o.0 (λ k. renewed-same value ps k o.1)
   where
-    go : (b : Bool) → (b ≡ true → p.id ≡ version_information) → cond b (some p.value) (our_value ps) ≡ some value
-        → elem p.id (ids_in ps) ≡ false → (our_value ps ≡ some value → (holds_ours ps ≡ true) × (renewed value ps ≡ ps))
+    go : (b : Bool) → (b ≡ true → p.id ≡ version_information) → cond b (Some p.value) (our_value ps) ≡ Some value
+        → elem p.id (ids_in ps) ≡ false → (our_value ps ≡ Some value → (holds_ours ps ≡ true) × (renewed value ps ≡ ps))
         → ((b || holds_ours ps) ≡ true) × (cond b (ours value) p ∷ renewed value ps ≡ p ∷ ps)
     go true k e other next =
         let missing : holds_ours ps ≡ false = holds_elem ps ∙ ap (λ (v : ℕ). elem v (ids_in ps)) (sym (k refl)) ∙ other in
@@ -213,6 +214,6 @@ renewed-same value (p ∷ ps) e once =
     go false k e other next = ((next e).0, ap (λ (l : List Content). p ∷ l) (next e).1)
 
 -- Parameters that have a value, and no identifier twice, carry it already
-pub carrying-same : (value : List ℕ) (ps : List Content) → our_value ps ≡ some value → repeats (ids_in ps) ≡ false → carrying value ps ≡ ps
+pub carrying-same : (value : List ℕ) (ps : List Content) → our_value ps ≡ Some value → repeats (ids_in ps) ≡ false → carrying value ps ≡ ps
 unfolding carrying
 carrying-same value ps e once = let r = renewed-same value ps e once in rw r.0 r.1

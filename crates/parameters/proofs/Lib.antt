@@ -2,7 +2,7 @@ pub mod Bytes
 pub mod Carrying
 pub mod Contents
 pub mod Fields
-pub mod Injective
+pub mod Items
 pub mod Kept
 pub mod Places
 pub mod Rewritten

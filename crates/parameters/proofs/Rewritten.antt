@@ -3,7 +3,7 @@
 use Prim.Native.Nat.{ℕ, ◌+◌, ◌-◌, ◌≤◌}
 use mathlib.Core.Bool.{true}
 use mathlib.Core.List.{List, [], ◌∷◌}
-use mathlib.Core.Option.{Option, Option.some}
+use Rattle.std.specs.Prelude.{Option, Some}
 use mathlib.Core.Path.{◌≡◌, refl, sym, ap, ◌∙◌}
 use native.Mathlib.Omega.{arith}
 use borrow.Author.Tests.{eqb-true}
@@ -90,11 +90,11 @@ module _ (s : List ℕ) (below : all_below 256 s ≡ true) (found : Option Span)
   shortest-is = shortest-written (contents_of s) can_write
 
 -- A sequence in which our value is found
-module _ (s : List ℕ) (below : all_below 256 s ≡ true) (place : Span) (e : read_parameters s ≡ answered (some place)) where
+module _ (s : List ℕ) (below : all_below 256 s ≡ true) (place : Span) (e : read_parameters s ≡ answered (Some place)) where
   -- What it says carries that value already
   carries-found : carrying (bytes_in s place) (contents_of s) ≡ contents_of s
   carries-found =
-      let read = read_kept s (some place) e in
+      let read = read_kept s (Some place) e in
       let k = read.0 in
       let value = ap our_value (kept-contents k) ∙ found-value s k.fields place read.1 in
       carrying-same (bytes_in s place) (contents_of s) value (once-of k)
@@ -103,13 +103,13 @@ module _ (s : List ℕ) (below : all_below 256 s ≡ true) (place : Span) (e : r
   pub rewritten : (room : ℕ) → length (shortest_form s) ≤ room
       → parameters_to_write s (bytes_in s place) room ≡ answered (shortest_form s)
   rewritten room h =
-      let fits = fits_in s below (some place) e room h in
-      write-answers s (bytes_in s place) room (kept s below (some place) e) (rw carries-found fits)
+      let fits = fits_in s below (Some place) e room h in
+      write-answers s (bytes_in s place) room (kept s below (Some place) e) (rw carries-found fits)
       ∙ ap (λ (ps : List Content). answered (sequence_bytes ps)) carries-found
 
   -- and where it was in shortest form already, the same bytes
   pub rewritten-same : (room : ℕ) → in_shortest_form s ≡ true → length s ≤ room
       → parameters_to_write s (bytes_in s place) room ≡ answered s
   rewritten-same room short h =
-      let same = shortest-same s below (some place) e short in
+      let same = shortest-same s below (Some place) e short in
       rewritten room (rw same h) ∙ ap answered same

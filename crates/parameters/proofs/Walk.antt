@@ -1,30 +1,24 @@
--- A walk over a sequence, parameter by parameter: those passed, and the rest, make up the whole.
-use Prim.Native.Nat.{ℕ, zero, suc, ◌+◌, ◌-◌, ◌*◌, ◌<◌, ◌≤◌, zero-le}
-use mathlib.Core.Bool.{Bool, true, false, true≢false}
-use mathlib.Core.List.{List, [], ◌∷◌, ◌++◌, append-nil, append_assoc}
+-- What a parameter that is read is made of, where it lies, and that further turns of a walk change nothing.
+use Prim.Native.Nat.{ℕ, zero, suc, ◌+◌, ◌-◌, ◌<◌, ◌≤◌}
+use mathlib.Core.Bool.{Bool, true, false}
+use mathlib.Core.List.{List, [], ◌∷◌}
 use mathlib.Core.Path.{◌≡◌, refl, sym, ap, ◌∙◌, subst}
 use native.Mathlib.Decide.{dec_lt}
-use native.Mathlib.Nat.{le_of_eq, not-le_of_lt, sub-zero}
 use native.Mathlib.Omega.{arith}
 use borrow.Author.Tests.{le-leb, lt-leb, ltb-false}
 use lib.Dec.{ltb}
-use lib.ListN.{length, drop, length-append}
+use lib.ListN.{length, drop}
+use Rattle.std.specs.Prelude.{Option}
 use Rattle.refusals.specs.Close.{close_of}
-use Rattle.refusals.specs.Reply.{Reply, Reply.refused, Reply.answered, refuse}
+use Rattle.refusals.specs.Reply.{Reply, Reply.refused, Reply.answered}
 use Rattle.refusals.specs.Rule.{Rule.◌when◌, judged}
 use Rattle.refusals.specs.declared.Call.TheVariants.{Reading}
-use Rattle.refusals.specs.declared.Close.{Close}
-use Rattle.refusals.specs.declared.Refusal.{Refusal}
 use Rattle.refusals.proofs.Rules.{answered-injective}
 use Rattle.integers.specs.Integers.{Found, read_integer}
 use Rattle.integers.proofs.RoundTrip.{read-within}
-use Rattle.lists.specs.declared.Span.{Span}
-use Rattle.parameters.specs.Reading.{fields_in, runs_past}
-use Rattle.parameters.specs.Sequence.{Field, behind_id, behind_length, field_at, fields_from, fields_of, followed_by, parameter_reply, then_from, with_id}
-use Rattle.parameters.specs.declared.Parameter.{Parameter}
-use Rattle.parameters.specs.declared.Parameter.TheVariants.{Refused, Read}
+use Rattle.parameters.specs.Sequence.{Field, behind_id, behind_length, field_at, fields_from, followed_by, then_from, with_id}
 
-pub no_answer : {A : Type 0} (n : ℕ) (c : Close) (a : A) → refused n c ≡ answered a → ⊥
+pub no_answer : {A : Type 0} (n : ℕ) (c : Option ℕ) (a : A) → refused n c ≡ answered a → ⊥
 no_answer n c a e = let z : ◌≡◌ {A = ℕ} 0 1 = cc in omega arith
 
 -- What a parameter that was read is made of: its identifier and its length as they were read, and its places
@@ -90,37 +84,6 @@ field-inside s at f e =
     } in
     subst (Inside s at) (sym p.is) parts
 
--- Those passed, then those that are left
-abbrev pub joined : List Field → Reply (List Field) → Reply (List Field)
-joined passed (refused n c) = refused n c
-joined passed (answered fs) = answered (passed ++ fs)
-
--- The walk at a place: those passed and what is read from there on, in turns that are enough, make up the whole
-pub record Going (s : List ℕ) (at : ℕ) (passed : List Field) : Type 0 where
-  pub turns : ℕ
-  pub enough : length s - at ≤ turns
-  pub inside : at ≤ length s
-  pub few : 2 * length passed ≤ at
-  pub rest : joined passed (fields_from turns s at) ≡ fields_of s
-
-joined-none : (r : Reply (List Field)) → joined [] r ≡ r
-joined-none (refused n c) = refl
-joined-none (answered fs) = refl
-
-pub begun : (s : List ℕ) → Going s 0 []
-unfolding fields_of
-begun s = record {
-  turns = length s;
-  enough = le_of_eq (sub-zero (length s));
-  inside = zero-le;
-  few = zero-le;
-  rest = joined-none (fields_from (length s) s 0);
-}
-
-one_more : (passed : List Field) (f : Field) (r : Reply (List Field)) → joined passed (followed_by f r) ≡ joined (passed ++ (f ∷ [])) r
-one_more passed f (refused n c) = refl
-one_more passed f (answered fs) = ap answered (sym (append_assoc passed (f ∷ []) fs))
-
 at-the-end : (t : ℕ) (s : List ℕ) (at : ℕ) → length s ≤ at → fields_from t s at ≡ answered []
 unfolding fields_from
 at-the-end zero s at h = refl
@@ -150,65 +113,3 @@ enough_turns s (suc t) (suc u) at h k = go (λ end. enough_turns s t u end) (dec
     go : Same → Dec (at < length s) → fields_from (suc t) s at ≡ fields_from (suc u) s at
     go same (yes l) = turn t s at l ∙ next same (field_at s at) refl l ∙ sym (turn u s at l)
     go same (no l) = at-the-end (suc t) s at (omega arith) ∙ sym (at-the-end (suc u) s at (omega arith))
-
-module _ (s : List ℕ) (at : ℕ) (passed : List Field) (g : Going s at passed) where
-  -- A turn on a parameter that is read
-  pub stepped : (f : Field) → at < length s → field_at s at ≡ answered f → Going s f.value.end (passed ++ (f ∷ []))
-  stepped f h e = go g.turns g.enough g.rest
-    where
-      go : (t : ℕ) → length s - at ≤ t → joined passed (fields_from t s at) ≡ fields_of s
-          → Going s f.value.end (passed ++ (f ∷ []))
-      go zero l r = absurd (not-le_of_lt h (omega (arith, l)))
-      go (suc t) l r =
-          let i = field-inside s at f e in
-          let first : fields_from (suc t) s at ≡ followed_by f (fields_from t s f.value.end) =
-          turn t s at h ∙ ap (then_from (fields_from t s)) e in
-          let more = length-append passed (f ∷ []) in
-          record {
-            turns = t;
-            enough = omega (arith, l, i.begins, i.in_order);
-            inside = i.ends;
-            few = omega (arith, g.few, more, i.begins, i.in_order);
-            rest = sym (one_more passed f (fields_from t s f.value.end)) ∙ sym (ap (joined passed) first) ∙ r;
-          }
-
-  -- A turn on one that is refused: so is the whole
-  pub stopped : (n : ℕ) → at < length s → field_at s at ≡ refuse Reading n → fields_of s ≡ refuse Reading n
-  stopped n h e = go g.turns g.enough g.rest
-    where
-      go : (t : ℕ) → length s - at ≤ t → joined passed (fields_from t s at) ≡ fields_of s → fields_of s ≡ refuse Reading n
-      go zero l r = absurd (not-le_of_lt h (omega (arith, l)))
-      go (suc t) l r =
-          let first : fields_from (suc t) s at ≡ refuse Reading n = turn t s at h ∙ ap (then_from (fields_from t s)) e in
-          sym r ∙ ap (joined passed) first
-
-  -- The end: those passed are all
-  pub ended : length s ≤ at → fields_of s ≡ answered passed
-  ended h =
-      let none : fields_from g.turns s at ≡ answered [] = at-the-end g.turns s at h in
-      sym g.rest ∙ ap (joined passed) none ∙ ap answered (append-nil passed)
-
--- Those passed are the front of all, where all are read
-pub record Front (passed whole : List Field) : Type 0 where
-  pub rest : List Field
-  pub is : whole ≡ passed ++ rest
-
-module _ (s : List ℕ) (at : ℕ) (passed : List Field) (g : Going s at passed) (read : runs_past (fields_of s) ≡ false) where
-  pub front_of : Front passed (fields_in (fields_of s))
-  front_of = go (fields_from g.turns s at) g.rest
-    where
-      go : (r : Reply (List Field)) → joined passed r ≡ fields_of s → Front passed (fields_in (fields_of s))
-      go (refused n c) e = absurd (true≢false (ap runs_past e ∙ read))
-      go (answered fs) e = record { rest = fs; is = sym (ap fields_in e) }
-
-  -- and none of them is refused
-  pub never-lost : (n : ℕ) → at < length s → field_at s at ≡ refuse Reading n → ⊥
-  never-lost n h e = true≢false (sym (ap runs_past (stopped s at passed g n h e)) ∙ read)
-
--- What a call of `read_parameter` told
-module _ (r : Parameter) (s : List ℕ) (at : ℕ) (told : parameter_reply r ≡ field_at s at) where
-  pub told-field : (id : ℕ) (value : Span) → r ≡ Read id value → field_at s at ≡ answered (record { id = id; value = value })
-  told-field id value e = sym told ∙ ap parameter_reply e
-
-  pub told-lost : (x : Refusal) → r ≡ Refused x → field_at s at ≡ refuse Reading x.0
-  told-lost x e = sym told ∙ ap parameter_reply e

@@ -1,7 +1,7 @@
 -- Worked sequences of document 02, C-11, each computed from the definitions alone.
 use Prim.Native.Nat.{ℕ, zero, suc, ◌+◌}
 use mathlib.Core.List.{List, [], ◌∷◌, ◌++◌}
-use mathlib.Core.Option.{Option.none, Option.some}
+use Rattle.std.specs.Prelude.{None, Some}
 use mathlib.Core.Path.{◌≡◌, refl}
 use Rattle.refusals.specs.Reply.{Reply.answered, refuse}
 use Rattle.refusals.specs.declared.Call.TheVariants.{Reading, Writing}
@@ -22,13 +22,13 @@ three = 1 ∷ 1 ∷ 0xaa ∷ 0x11 ∷ 2 ∷ 0xbb ∷ 0xcc ∷ 0x40 ∷ 5 ∷ 0x4
 
 -- `three` is 1 with value AA, ours with value BB CC, 5 with value DD
 pub record Readings : Type 0 where
-  pub empty : read_parameters [] ≡ answered none
-  pub found : read_parameters three ≡ answered (some (record { start = 5; end = 7 }))
-  pub missing : read_parameters (1 ∷ 0 ∷ []) ≡ answered none
+  pub empty : read_parameters [] ≡ answered None
+  pub found : read_parameters three ≡ answered (Some (record { start = 5; end = 7 }))
+  pub missing : read_parameters (1 ∷ 0 ∷ []) ≡ answered None
   pub cut : read_parameters (1 ∷ 0 ∷ 0x11 ∷ 1 ∷ []) ≡ refuse Reading 81
   pub cut-with-repeat : read_parameters (1 ∷ 0 ∷ 1 ∷ 0 ∷ 2 ∷ []) ≡ refuse Reading 81
   pub same-identifier : read_parameters (5 ∷ 0 ∷ 0x40 ∷ 5 ∷ 0 ∷ []) ≡ refuse Reading 82
-  pub sixty-four : read_parameters (many 64) ≡ answered (some (record { start = 94; end = 94 }))
+  pub sixty-four : read_parameters (many 64) ≡ answered (Some (record { start = 94; end = 94 }))
   pub sixty-five : read_parameters (many 64 ++ (0x40 ∷ 0x40 ∷ 0 ∷ [])) ≡ refuse Reading 85
   pub repeat-among-many : read_parameters (many 64 ++ (0x40 ∷ 0x40 ∷ 0 ∷ 7 ∷ 0 ∷ [])) ≡ refuse Reading 82
   pub cut-among-many : read_parameters (many 64 ++ (0x40 ∷ 0x40 ∷ 0 ∷ 7 ∷ 0 ∷ 8 ∷ [])) ≡ refuse Reading 81

@@ -1,6 +1,6 @@
 -- The words of the laws of a sequence: what is written is read, what it says stays, and the shortest form.
 use Rattle.std.specs.Prelude.{ℕ, ◌+◌, ◌-◌, ◌≤◌, Bool, true, cond, ◌&&◌, List, [], ◌∷◌, ◌++◌, ◌≡◌, eqb, length}
-use Rattle.std.proofs.Math.Option.{Option.some}
+use Rattle.std.specs.Prelude.{Some}
 use Rattle.refusals.specs.Reply.{Reply.answered}
 use Rattle.versions.specs.Table.{elem}
 use Rattle.integers.specs.Integers.{shortest_width}
@@ -30,7 +30,7 @@ placed at (p ∷ ps) = placed_at at p ∷ placed (placed_at at p).value.end ps
 -- The reader reads a sequence, and finds our parameter there with this value
 pub record Carries (s value : List ℕ) : Type 0 where
   pub place : Span
-  pub reads : read_parameters s ≡ answered (some place)
+  pub reads : read_parameters s ≡ answered (Some place)
   pub same : bytes_in s place ≡ value
 
 -- The parameters but ours, in their order

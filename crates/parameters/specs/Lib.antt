@@ -1,3 +1,4 @@
+pub mod Items
 pub mod Laws
 pub mod Limits
 pub mod Reading

@@ -1,14 +1,12 @@
 -- The reader of a sequence: document 02, C-11.
 use Rattle.std.specs.Prelude.{ℕ, Bool, true, false, cond, List, [], ◌∷◌, eqb, ltb, length}
-use Rattle.std.proofs.Math.Option.{Option, Option.none, Option.some}
-use Rattle.refusals.specs.Reply.{Reply, Reply.refused, Reply.answered, refuse}
+use Rattle.std.specs.Prelude.{Option, None, Some}
+use Rattle.refusals.specs.Reply.{Reply, Reply.refused, Reply.answered}
 use Rattle.refusals.specs.Rule.{Rule, Rule.◌when◌, judged}
 use Rattle.refusals.specs.declared.Call.TheVariants.{Reading}
 use Rattle.lists.specs.declared.Span.{Span}
 use Rattle.parameters.specs.Limits.{max_sequence, max_parameters, version_information}
 use Rattle.parameters.specs.Sequence.{Field, fields_of, ids_of, repeats}
-use Rattle.parameters.specs.declared.Carried.{Carried}
-use Rattle.parameters.specs.declared.Carried.TheVariants.{Refused, Missing, At}
 
 -- "81 a field runs past the end"
 abbrev pub runs_past : Reply (List Field) → Bool
@@ -32,14 +30,8 @@ sequence_rules s =
 
 -- "where our value lies, or that it is missing"; "unknown ones are stepped over"
 unfoldable pub carried : List Field → Option Span
-carried [] = none
-carried (f ∷ fs) = cond (eqb f.id version_information) (some f.value) (carried fs)
+carried [] = None
+carried (f ∷ fs) = cond (eqb f.id version_information) (Some f.value) (carried fs)
 
 unfoldable pub read_parameters : List ℕ → Reply (Option Span)
 read_parameters s = judged Reading (sequence_rules s) (answered (carried (fields_in (fields_of s))))
-
--- The cases of `Carried`
-abbrev pub carried_reply : Carried → Reply (Option Span)
-carried_reply (Refused r) = refuse Reading r.0
-carried_reply Missing = answered none
-carried_reply (At part) = answered (some part)

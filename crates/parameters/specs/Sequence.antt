@@ -1,19 +1,17 @@
 -- A sequence of transport parameters: RFC 9000 section 18, document 02, C-11: "identifier, length, value, the first two
 -- as variable-length integers".
 use Rattle.std.specs.Prelude.{ℕ, zero, suc, ◌+◌, ◌-◌, Bool, false, cond, ◌||◌, List, [], ◌∷◌, leb, ltb, length, take, drop}
-use Rattle.refusals.specs.Reply.{Reply, Reply.refused, Reply.answered, refuse}
+use Rattle.refusals.specs.Reply.{Reply, Reply.refused, Reply.answered}
 use Rattle.refusals.specs.Rule.{Rule, Rule.◌when◌, judged}
 use Rattle.refusals.specs.declared.Call.TheVariants.{Reading}
 use Rattle.versions.specs.Table.{elem}
 use Rattle.integers.specs.Integers.{Found, read_integer}
 use Rattle.lists.specs.declared.Span.{Span}
 use Rattle.parameters.specs.declared.Parameter.{Parameter}
-use Rattle.parameters.specs.declared.Parameter.TheVariants.{Refused, Read}
 
 -- A parameter where it lies: its identifier, and where its value begins and ends in the sequence
-pub record Field : Type 0 where
-  pub id : ℕ
-  pub value : Span
+abbrev pub Field : Type 0
+Field = Parameter
 
 -- "81 a field runs past the end"
 abbrev pub field_rules : List ℕ → Field → List Rule
@@ -37,11 +35,6 @@ with_id s at (answered i) = behind_id s i.value (at + i.width)
 -- The parameter that begins at a place
 unfoldable pub field_at : List ℕ → ℕ → Reply Field
 field_at s at = with_id s at (read_integer (drop at s))
-
--- The cases of `Parameter`
-abbrev pub parameter_reply : Parameter → Reply Field
-parameter_reply (Refused r) = refuse Reading r.0
-parameter_reply (Read i v) = answered (record { id = i; value = v })
 
 abbrev pub followed_by : Field → Reply (List Field) → Reply (List Field)
 followed_by f (refused n c) = refused n c

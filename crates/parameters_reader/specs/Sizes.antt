@@ -1,5 +1,12 @@
 -- Words for the contracts of src/identifiers.rt, which are private: the small identifiers and the large ones.
 use Rattle.std.specs.Prelude.{ℕ, Bool, true, false, cond, List, [], ◌∷◌, ltb, get_or, set}
+use Rattle.parameters.specs.Items.{items_left}
+use Rattle.parameters.specs.Sequence.{ids_of}
+use Rattle.parameters.specs.declared.Parameters.{Parameters}
+
+-- The identifiers of the parameters that are left
+abbrev pub ids_left : Parameters → List ℕ
+ids_left p = ids_of (items_left p.sequence.now p.at)
 
 -- Identifiers from here on are large: they do not fit in two bytes
 abbrev pub large : ℕ

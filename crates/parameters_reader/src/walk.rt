@@ -1,41 +1,45 @@
 // The walk over a sequence: how many parameters there are, where Version Information lies, the first identifiers.
 ghost use Rattle.std.specs.Prelude.{◌≡◌, length};
-ghost use Rattle.refusals.specs.Reply.{Reply.answered};
+ghost use Rattle.refusals.specs.Reply.{read_reply};
 ghost use Rattle.parameters.specs.Limits.{max_parameters};
-ghost use Rattle.parameters.specs.Reading.{carried_reply};
 ghost use Rattle.parameters.specs.Sequence.{field_at, fields_of};
-ghost use Rattle.parameters_reader.specs.Walking.{Noted, carried_there, noted, or_here, passage_of, walked_as};
+ghost use Rattle.parameters_reader.specs.Walking.{Noted, carried_there, noted, or_here, passage_of};
 
-use parameters::{Carried, Parameter, VERSION_INFORMATION, read_parameter};
+use lists::Span;
+use parameters::{Parameter, Parameters, VERSION_INFORMATION, read_parameter};
+use refusals::Refusal;
 
-// What the walk tells: a field runs past the end, or how many parameters there are and where Version Information begins;
-// where it is missing, that is the sequence's end.
-#[derive(Drop)]
-pub(crate) enum Walked {
-    RunsPast,
-    Through { count: usize, ours: usize },
+// What the walk tells: how many parameters there are, and where the value of Version Information lies.
+#[derive(Clone, Copy)]
+pub(crate) struct Walked {
+    pub count: usize,
+    pub value: Option<Span>,
 }
 
-// Walks over a sequence, and notes the first identifiers, as many as there is room for.
-pub(crate) fn walk(sequence: &[u8], ids: &mut [u64]) -> Walked
-    requires { length ids.old ≡ max_parameters }
-    ensures answer { walked_as sequence.now result ≡ passage_of (fields_of sequence.now) }
-    ensures noted { Noted (fields_of sequence.now) ids.new }
+// Walks over a sequence, and notes the first identifiers, as many as there is room for. Refusal: 81. (It keeps the place
+// where Version Information begins, a number: an Option kept over the turns was copied through memory at each of them.)
+pub(crate) fn walk(parameters: Parameters, ids: &mut [u64]) -> Result<Walked, Refusal>
+    requires start { parameters.at ≡ 0 }
+    requires room { length ids.old ≡ max_parameters }
+    ensures answer { read_reply result ≡ passage_of (fields_of parameters.entry.sequence.now) }
+    ensures noted { Noted (fields_of parameters.entry.sequence.now) ids.new }
 {
+    let sequence = parameters.sequence;
+    let end = sequence.len();
     let mut at = 0;
     let mut count = 0;
-    let mut ours = sequence.len();
-    while at < sequence.len() {
-        let one = read_parameter(sequence, at);
-        let Parameter::Read { id, value } = one else {
-            return Walked::RunsPast;
-        };
+    let mut ours = end;
+    for Parameter { id, value } in parameters {
         note(ids, count, id);
-        ours = or_here(ours, sequence.len(), id, at);
+        ours = or_here(ours, end, id, at);
         count += 1;
         at = value.end;
     }
-    Walked::Through { count, ours }
+    if at < end {
+        return Err(Refusal::RUNS_PAST_THE_END);
+    }
+    let value = carried_at(sequence, ours);
+    Ok(Walked { count, value })
 }
 
 // Puts an identifier at a place, if there is such a place.
@@ -61,11 +65,8 @@ fn or_here(ours: usize, missing: usize, id: u64, at: usize) -> usize
 }
 
 // What is carried, where Version Information begins at a place, or is missing where the place is the end.
-pub(crate) fn carried_at(sequence: &[u8], ours: usize) -> Carried
-    ensures { carried_reply result ≡ answered (carried_there (field_at sequence.now ours)) }
+fn carried_at(sequence: &[u8], ours: usize) -> Option<Span>
+    ensures { result ≡ carried_there (field_at sequence.now ours) }
 {
-    match read_parameter(sequence, ours) {
-        Parameter::Refused(_) => Carried::Missing,
-        Parameter::Read { value, .. } => Carried::At(value),
-    }
+    Some(read_parameter(sequence, ours).ok()?.value)
 }

@@ -12,11 +12,9 @@ use Rattle.integers.specs.Integers.{shortest_bytes, shortest_width}
 use Rattle.integers.proofs.Least.{length-shortest}
 use Rattle.lists.proofs.Places.{length_part}
 use Rattle.parameters.specs.Limits.{max_sequence, version_information}
-use Rattle.parameters.specs.Reading.{fields_in, runs_past}
-use Rattle.parameters.specs.Sequence.{Field, fields_of}
+use Rattle.parameters.specs.Sequence.{Field}
 use Rattle.parameters.specs.Writing.{Content, carrying, content_bytes, content_of, contents_in, holds_ours, is_ours, ours, renewed, sequence_bytes}
 use Rattle.parameters.proofs.Carrying.{renewed-missing}
-use Rattle.parameters.proofs.Walk.{Going, front_of}
 use Rattle.parameters_writer.specs.Renewing.{new_bytes, renewed_bytes, renewed_one}
 
 -- ---- one behind the other
@@ -106,13 +104,12 @@ length-renewed v [] = refl
 length-renewed v (p ∷ ps) = ap suc (length-renewed v ps)
 
 -- The parameters passed take no more bytes than all of them
-pub passed-within : (s v : List ℕ) (at : ℕ) (passed : List Field) → Going s at passed → runs_past (fields_of s) ≡ false
-    → length (renewed_bytes s v passed) ≤ length (renewed_bytes s v (fields_in (fields_of s)))
-passed-within s v at passed g reads =
-    let front = front_of s at passed g reads in
-    let whole : renewed_bytes s v (fields_in (fields_of s)) ≡ renewed_bytes s v passed ++ renewed_bytes s v front.rest =
-    ap (renewed_bytes s v) front.is ∙ bytes-append s v passed front.rest in
-    omega (arith, ap length whole, length-append (renewed_bytes s v passed) (renewed_bytes s v front.rest))
+pub passed-within : (s v : List ℕ) (items passed rest : List Field) → passed ++ rest ≡ items
+    → length (renewed_bytes s v passed) ≤ length (renewed_bytes s v items)
+passed-within s v items passed rest e =
+    let whole : renewed_bytes s v items ≡ renewed_bytes s v passed ++ renewed_bytes s v rest =
+    ap (renewed_bytes s v) (sym e) ∙ bytes-append s v passed rest in
+    omega (arith, ap length whole, length-append (renewed_bytes s v passed) (renewed_bytes s v rest))
 
 -- ---- ours
 

@@ -9,8 +9,7 @@ use Rattle.refusals.specs.Reply.{Reply, Reply.answered}
 use Rattle.refusals.specs.Written.{written_reply, counted, leaves}
 use Rattle.refusals.specs.declared.Call.TheVariants.{Writing}
 use Rattle.refusals.specs.declared.Refusal.{Refusal}
-use Rattle.refusals.specs.declared.Written.{Written}
-use Rattle.refusals.specs.declared.Written.TheVariants.{Refused, Count}
+use Rattle.std.specs.Prelude.{Result, Ok, Err}
 use Rattle.refusals.proofs.Rules.{answered-injective, refused-not-answered}
 use Rattle.lists.proofs.Places.{length-part_from, length-put, over, part_from, put_from}
 use Rattle.integers.specs.Integers.{integer_to_write, shortest_bytes, shortest_width}
@@ -68,13 +67,13 @@ module _ (v : ℕ) (buffer : List ℕ) (small : v ≤ max_integer) (room : lengt
       let fits : shortest_width v ≤ length buffer = subst (λ (n : ℕ). n ≤ length buffer) (length-shortest v) room in
       rw (le-ltb _ _ small, le-ltb _ _ fits)
 
-  pub integer-put : (w : Written) (n : ℕ) (left : List ℕ) → written_reply w ≡ counted (integer_to_write v (length buffer))
-      → w ≡ Count n → left ≡ leaves (integer_to_write v (length buffer)) buffer → Begins buffer (shortest_bytes v) left n
+  pub integer-put : (w : Result ℕ Refusal) (n : ℕ) (left : List ℕ) → written_reply w ≡ counted (integer_to_write v (length buffer))
+      → w ≡ Ok n → left ≡ leaves (integer_to_write v (length buffer)) buffer → Begins buffer (shortest_bytes v) left n
   integer-put w n left a e l = record {
     counts = answered-injective n (length (shortest_bytes v)) (ap written_reply (sym e) ∙ a ∙ ap counted can_write);
     left = l ∙ ap (λ (r : Reply (List ℕ)). leaves r buffer) can_write;
   }
 
-  pub never-refused : (w : Written) (x : Refusal) → written_reply w ≡ counted (integer_to_write v (length buffer)) → w ≡ Refused x → ⊥
+  pub never-refused : (w : Result ℕ Refusal) (x : Refusal) → written_reply w ≡ counted (integer_to_write v (length buffer)) → w ≡ Err x → ⊥
   never-refused w x a e =
       refused-not-answered x.0 Writing (length (shortest_bytes v)) (ap written_reply (sym e) ∙ a ∙ ap counted can_write)

@@ -1,11 +1,11 @@
 -- Words for the contracts of src/putting.rt and src/size.rt, which are private.
-use Rattle.std.specs.Prelude.{ℕ, ◌+◌, ◌≤◌, false, cond, List, ◌≡◌, length}
-use Rattle.lists.specs.declared.Span.{Span}
+use Rattle.std.specs.Prelude.{ℕ, ◌+◌, ◌≤◌, cond, List, length}
 use Rattle.integers.specs.Limits.{max_integer}
 use Rattle.parameters.specs.Limits.{max_sequence}
-use Rattle.parameters.specs.Reading.{runs_past}
-use Rattle.parameters.specs.Sequence.{Field, fields_of}
-use Rattle.parameters.specs.Writing.{Content, carrying, content_bytes, content_of, contents_in, contents_of, is_ours, ours, renewed, sequence_bytes}
+use Rattle.parameters.specs.Items.{items_left}
+use Rattle.parameters_writer.specs.declared.renewal.Renewal.{Renewal}
+use Rattle.parameters.specs.Sequence.{Field}
+use Rattle.parameters.specs.Writing.{Content, carrying, content_bytes, content_of, contents_in, is_ours, ours, renewed, sequence_bytes}
 
 -- The most bytes that a parameter takes in the new sequence: two integers of 8 at the most, and a value
 abbrev pub max_one : ℕ
@@ -23,18 +23,23 @@ new_bytes old value f = content_bytes (renewed_one value (content_of old f))
 abbrev pub renewed_bytes : List ℕ → List ℕ → List Field → List ℕ
 renewed_bytes old value fs = sequence_bytes (renewed value (contents_in old fs))
 
--- The new sequence
-abbrev pub new_sequence : List ℕ → List ℕ → List ℕ
-new_sequence old value = sequence_bytes (carrying value (contents_of old))
+-- The parameters that the old sequence has
+abbrev pub fields_in_old : Renewal → List Field
+fields_in_old r = items_left r.old.sequence.now r.old.at
 
--- An old sequence that can be read and a value, neither of them too long
-pub record Readable (old value : List ℕ) : Type 0 where
-  pub old-short : length old ≤ max_sequence
-  pub value-short : length value ≤ max_sequence
-  pub is_read : runs_past (fields_of old) ≡ false
+-- Their bytes in the new sequence
+abbrev pub renewed_old : Renewal → List ℕ
+renewed_old r = renewed_bytes r.old.sequence.now r.value.now (fields_in_old r)
+
+-- The new sequence
+abbrev pub new_contents : Renewal → List Content
+new_contents r = carrying r.value.now (contents_in r.old.sequence.now (fields_in_old r))
+
+abbrev pub new_sequence : Renewal → List ℕ
+new_sequence r = sequence_bytes (new_contents r)
 
 -- A parameter of a sequence that can be written
-pub record CanBeWritten (old : List ℕ) (id : ℕ) (part : Span) : Type 0 where
-  pub small : id ≤ max_integer
-  pub in_order : part.start ≤ part.end
-  pub ends : part.end ≤ length old
+pub record CanBeWritten (old : List ℕ) (f : Field) : Type 0 where
+  pub small : f.id ≤ max_integer
+  pub in_order : f.value.start ≤ f.value.end
+  pub ends : f.value.end ≤ length old

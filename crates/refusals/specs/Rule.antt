@@ -3,7 +3,7 @@
 -- list of rules a theorem says that its numbers rise (`rising`), and `lowest-number-given` that the first that applies
 -- is then the lowest.
 use Rattle.std.specs.Prelude.{ℕ, Bool, true, false, not, ◌&&◌, ◌||◌, List, [], ◌∷◌, eqb, ltb}
-use Rattle.std.proofs.Math.Option.{Option, Option.none, Option.some}
+use Rattle.std.specs.Prelude.{Option, None, Some}
 use Rattle.refusals.specs.Reply.{Reply, refuse}
 use Rattle.refusals.specs.declared.Call.{Call}
 
@@ -28,7 +28,7 @@ clear ((n when applies) ∷ rules) = not applies && clear rules
 
 -- The number that the rules give, if one applies
 abbrev pub number_given : List Rule → Option ℕ
-number_given rules = lowest some rules none
+number_given rules = lowest Some rules None
 
 -- The number is that of a rule which applies
 abbrev pub applies : ℕ → List Rule → Bool

@@ -1,15 +1,14 @@
 -- What a writer answers, and what it leaves in the lent buffer. Document 01: "The answer is the byte count";
 -- "Bytes of the buffer past it keep their values"; "Every refusal leaves lent buffers as found".
-use Rattle.std.specs.Prelude.{ℕ, List, ◌++◌, length, drop}
+use Rattle.std.specs.Prelude.{ℕ, List, ◌++◌, length, drop, Result, Ok, Err}
 use Rattle.refusals.specs.Reply.{Reply, Reply.refused, Reply.answered, refuse}
 use Rattle.refusals.specs.declared.Call.TheVariants.{Writing}
-use Rattle.refusals.specs.declared.Written.{Written}
-use Rattle.refusals.specs.declared.Written.TheVariants.{Refused, Count}
+use Rattle.refusals.specs.declared.Refusal.{Refusal}
 
--- The cases of `Written`
-abbrev pub written_reply : Written → Reply ℕ
-written_reply (Refused r) = refuse Writing r.0
-written_reply (Count n) = answered n
+-- The result of a writer: how many bytes of the lent buffer it wrote, or a refusal
+abbrev pub written_reply : Result ℕ Refusal → Reply ℕ
+written_reply (Ok n) = answered n
+written_reply (Err r) = refuse Writing r.0
 
 -- The count that goes with the bytes that a writer has to write
 abbrev pub counted : Reply (List ℕ) → Reply ℕ

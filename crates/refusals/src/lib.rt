@@ -1,13 +1,14 @@
 // Refusals: each number of document 01's table under a name for its one cause, and the close code
-// that goes with it. Answers that every writer shares stand here too.
+// that goes with it.
 #![tactic(auto)]
 
-ghost use Rattle.std.specs.Prelude.{◌≡◌, ◌<◌};
+ghost use Rattle.std.specs.Prelude.{◌≡◌};
 ghost use Rattle.refusals.specs.Table.{numbers, table};
 ghost use Rattle.refusals.specs.Close.{close_of, code_in};
 
-// A refusal is its number in document 01's table.
-#[derive(Clone, Copy)]
+// A refusal is its number in document 01's table. It is no enum of those numbers: `close_code` answers for any number, and
+// 255 stands for what is no record (attempt::NOT_A_RECORD).
+#[derive(Clone, Copy, PartialEq, Eq)]
 pub struct Refusal(pub u8);
 
 impl Refusal {
@@ -97,27 +98,21 @@ impl Refusal {
     pub const TOO_MANY_PARAMETERS: Refusal = Refusal(85);
 }
 
+impl From<Refusal> for u32 {
+    fn from(refusal: Refusal) -> u32
+        ensures { result ≡ refusal.0 }
+    {
+        u32::from(refusal.0)
+    }
+}
+
 // The kind of call that gave a refusal. Only what was read from the peer can close a connection.
-#[derive(Drop)]
+#[derive(Clone, Copy)]
 pub enum Call {
     // A reader, the server's choice, an event.
     Reading,
     // A writer.
     Writing,
-}
-
-// The transport error code to close the connection with (RFC 9000 section 20.1, RFC 9368 section 10.2).
-#[derive(Drop)]
-pub enum Close {
-    Nothing,
-    With(u64),
-}
-
-// What a writer answers: a refusal, or how many bytes of the lent buffer it wrote.
-#[derive(Drop)]
-pub enum Written {
-    Refused(Refusal),
-    Count(usize),
 }
 
 // How many numbers document 01's table has.
@@ -173,52 +168,26 @@ pub fn all_numbers() -> [u8; COUNT]
     ]
 }
 
-// The close code of a refusal, for any number: document 01's table for what was read, nothing for a
-// writer and for a number that the table does not have. Total, and it refuses nothing.
-pub fn close_code(refusal: Refusal, call: Call) -> Close
+// The transport error code to close the connection with after a refusal (RFC 9000 section 20.1, RFC 9368 section 10.2), for
+// any number: document 01's table for what was read, none for a writer and for a number that the table does not have.
+// Total, and it refuses nothing.
+pub fn close_code(refusal: Refusal, call: Call) -> Option<u64>
     ensures { result ≡ close_of refusal.0 call }
 {
     match call {
         Call::Reading => code_in_the_table(refusal.0),
-        Call::Writing => Close::Nothing,
+        Call::Writing => None,
     }
 }
 
-// The close code in the row of a number; nothing for a number that the table does not have.
-fn code_in_the_table(number: u8) -> Close
+// The close code in the row of a number; none for a number that the table does not have.
+#[tactic(auto, using(crate::proofs::Codes::by_ranges))]
+fn code_in_the_table(number: u8) -> Option<u64>
     ensures { result ≡ code_in table number }
 {
-    if number < 31 {
-        return Close::Nothing;
+    match number {
+        31..=36 | 80..=82 | 85 => Some(0x08),
+        51 | 71..=75 => Some(0x11),
+        _ => None,
     }
-    if number <= 36 {
-        return Close::With(0x08);
-    }
-    if number == 51 {
-        return Close::With(0x11);
-    }
-    if number < 71 {
-        return Close::Nothing;
-    }
-    if number <= 75 {
-        return Close::With(0x11);
-    }
-    code_from_76(number)
-}
-
-// The same for the numbers after 75: those of transport parameters.
-fn code_from_76(number: u8) -> Close
-    requires { 75 < number }
-    ensures { result ≡ code_in table number }
-{
-    if number < 80 {
-        return Close::Nothing;
-    }
-    if number <= 82 {
-        return Close::With(0x08);
-    }
-    if number == 85 {
-        return Close::With(0x08);
-    }
-    Close::Nothing
 }

@@ -6,6 +6,7 @@ use mathlib.Core.Bool.{Bool, true, false, cond, not, ◌&&◌, ◌||◌, and-tru
 use mathlib.Core.List.{List, [], ◌∷◌}
 use mathlib.Core.Path.{◌≡◌, refl, sym, ap, ◌∙◌}
 use native.Mathlib.Omega.{arith}
+use Rattle.std.proofs.Common.{tests}
 use lib.Dec.{eqb}
 use borrow.Author.Tests.{eqb-true}
 use Rattle.refusals.specs.Reply.{Reply.answered}
@@ -13,7 +14,7 @@ use Rattle.refusals.specs.Rule.{Rule.◌when◌}
 use Rattle.refusals.proofs.Rules.{both_true}
 use Rattle.versions.specs.Pairs.{paired, pairs_keep_rule}
 use Rattle.versions.specs.Table.{elem, table_keeps_rule}
-use Rattle.information.specs.declared.Presence.TheVariants.{Missing}
+use Rattle.information.specs.Presence.{Presence.Missing}
 use Rattle.server.specs.FirstFlight.{Act.negotiate, Act.use-version, server_rules, may_use, first_accepted, with_information}
 
 -- Nothing is barred: each as it was before C-17
@@ -45,34 +46,16 @@ pub missing-not-barred : (accepted : List ℕ) (pairs : List (List ℕ)) (barred
     answered (cond (elem version accepted) (use-version version) negotiate)
 missing-not-barred accepted pairs barred version information = refl
 
--- An answer uses one version
-same-used : (v w : ℕ) → use-version v ≡ use-version w → v ≡ w
-same-used v w e = cc
-
-not-used : (v : ℕ) → negotiate ≡ use-version v → ⊥
-not-used v e = let z : ◌≡◌ {A = ℕ} 0 1 = cc in omega arith
-
 -- A barred version that is used is Chosen
 module _ (pairs : List (List ℕ)) (barred : List ℕ) (chosen : ℕ) (available : List ℕ) (v : ℕ) (among : elem v barred ≡ true) where
   use-is-chosen : may_use pairs barred chosen available v ≡ true → v ≡ chosen
   unfolding may_use
-  use-is-chosen h = go (eqb v chosen) refl (paired pairs chosen v) (both_true (elem v available) _ h).1
-    where
-      go : (b : Bool) → eqb v chosen ≡ b → (p : Bool) → (b || (p && not (elem v barred))) ≡ true → v ≡ chosen
-      go true e p h = eqb-true v chosen e
-      go false e true h = absurd (false≢true (ap not (sym among) ∙ h))
-      go false e false h = absurd (false≢true h)
+  use-is-chosen h = grind (arith, tests)
 
   pub barred-only-chosen : (accepted : List ℕ) → first_accepted accepted pairs barred chosen available ≡ use-version v → v ≡ chosen
   unfolding first_accepted
-  barred-only-chosen [] h = absurd (not-used v h)
-  barred-only-chosen (w ∷ accepted) h = go (may_use pairs barred chosen available w) refl h (barred-only-chosen accepted)
-    where
-      go : (b : Bool) → may_use pairs barred chosen available w ≡ b →
-          cond b (use-version w) (first_accepted accepted pairs barred chosen available) ≡ use-version v →
-          (first_accepted accepted pairs barred chosen available ≡ use-version v → v ≡ chosen) → v ≡ chosen
-      go true m h ih = use-is-chosen (ap (may_use pairs barred chosen available) (sym (same-used w v h)) ∙ m)
-      go false m h ih = ih h
+  barred-only-chosen [] h = grind arith
+  barred-only-chosen (w ∷ accepted) h = grind (arith, barred-only-chosen accepted, use-is-chosen)
 
 -- Lists that bar the same versions, whatever their order and however often: the same is used
 module _ (pairs : List (List ℕ)) (chosen : ℕ) (available bs cs : List ℕ) (same : (v : ℕ) → elem v bs ≡ elem v cs) where

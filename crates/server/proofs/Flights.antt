@@ -4,7 +4,6 @@ use Prim.Native.Nat.{ℕ, ◌+◌, ◌/◌, ◌<◌, ◌≤◌}
 use mathlib.Core.Bool.{Bool, true, false, not, ◌&&◌, ◌||◌}
 use mathlib.Core.List.{List, [], ◌∷◌}
 use mathlib.Core.Path.{◌≡◌, refl, sym, ap, ◌∙◌}
-use native.Mathlib.Omega.{arith}
 use borrow.Author.Tests.{eq-eqb, ne_eqb}
 use lib.Dec.{eqb}
 use lib.ListN.{length, take, drop, get_or, drop_of_length-le}
@@ -20,9 +19,9 @@ use Rattle.versions.proofs.Bits.{lowest-bit, rest-bits, bit-says}
 use Rattle.versions.proofs.Lists.{drop-next, table-entries}
 use Rattle.versions.proofs.Marked.{word-of-all, from-none, from-pair, from-other}
 use Rattle.information.specs.Information.{chosen_of, available_of, versions_in, read_information}
-use Rattle.information.specs.declared.Presence.TheVariants.{Given}
+use Rattle.information.specs.Presence.{Presence.Given}
 use Rattle.information.specs.declared.Sender.TheVariants.{Client}
-use Rattle.information.proofs.Readings.{Known, read_rules, read-refused, known-available, known-clear}
+use Rattle.information.proofs.Readings.{Known, read_known, read_rules, read-refused, known-available, known-clear}
 use Rattle.server.specs.FirstFlight.{Act, Act.negotiate, Act.use-version, may_use, first_accepted, with_information}
 
 -- `first_accepted` at a place of the walk: what the version there decides, what it leaves, and the end
@@ -69,27 +68,18 @@ module _ (pairs : List (List ℕ)) (chosen : ℕ) (accepted : List ℕ) (i word 
       let b = eqb here chosen || paired pairs chosen here in
       rw (e, drop-next accepted i 0 h, rest-bits b (word_from (drop (i + 1) accepted) pairs chosen))
 
--- The walk down the pairs, marking the places: the end, and k, the place before j
-module _ (accepted : List ℕ) (kept : table_keeps_rule accepted ≡ true) (chosen : ℕ) (pairs : List (List ℕ)) where
-  pub from_end : marked (take word_bits accepted) chosen 0 ≡ word_from accepted (drop (length pairs) pairs) chosen
-  from_end =
-      let le : length pairs ≤ length pairs = omega arith in
-      rw (word-of-all accepted kept, drop_of_length-le pairs le) (from-none accepted (table-entries accepted kept) chosen)
+-- The walk down the pairs, marking the places: its end, a pair from Chosen, and another pair
+module _ (accepted : List ℕ) (kept : table_keeps_rule accepted ≡ true) (chosen : ℕ) where
+  pub from-end : marked (take word_bits accepted) chosen 0 ≡ word_from accepted [] chosen
+  from-end = rw (word-of-all accepted kept) (from-none accepted (table-entries accepted kept) chosen)
 
-  module _ (k j : ℕ) (e : j ≡ k + 1) (h : k < length pairs) where
-    abbrev pair : List ℕ
-    pair = get_or pairs k []
-
+  module _ (pair : List ℕ) (pairs : List (List ℕ)) where
     pub from-hit : from_of pair ≡ chosen →
-        marked (take word_bits accepted) (to_of pair) (word_from accepted (drop j pairs) chosen) ≡ word_from accepted (drop k pairs) chosen
-    from-hit f =
-        rw (word-of-all accepted kept, e, drop-next pairs k [] h)
-        (from-pair accepted (table-entries accepted kept) chosen pair (drop (k + 1) pairs) f)
+        marked (take word_bits accepted) (to_of pair) (word_from accepted pairs chosen) ≡ word_from accepted (pair ∷ pairs) chosen
+    from-hit f = rw (word-of-all accepted kept) (from-pair accepted (table-entries accepted kept) chosen pair pairs f)
 
-    pub from-miss : (from_of pair ≡ chosen → ⊥) → word_from accepted (drop j pairs) chosen ≡ word_from accepted (drop k pairs) chosen
-    from-miss f =
-        rw (e, drop-next pairs k [] h)
-        (from-other accepted (table-entries accepted kept) chosen pair (drop (k + 1) pairs) f)
+    pub from-miss : (from_of pair ≡ chosen → ⊥) → word_from accepted pairs chosen ≡ word_from accepted (pair ∷ pairs) chosen
+    from-miss f = from-other accepted (table-entries accepted kept) chosen pair pairs f
 
 -- Version Information is given
 module _ (accepted : List ℕ) (pairs : List (List ℕ)) (barred : List ℕ) (version : ℕ) (information : List ℕ) where
@@ -123,3 +113,8 @@ module _ (accepted : List ℕ) (pairs : List (List ℕ)) (barred : List ℕ) (ve
 
     pub given-same : c ≡ version → answered (first_accepted accepted pairs barred c (versions_in information s)) ≡ given
     given-same h = rw (given-read, eq-eqb c version h)
+
+-- The laws of the walks
+pub ruleset walk_rules = (accepted-here, accepted-next, accepted-end, use-told, word-rest)
+
+pub ruleset given_rules = (given-refused, given-other, given-same, read_known)

@@ -10,8 +10,7 @@ use Rattle.versions.specs.Limits.{max_pairs}
 use Rattle.versions.specs.Pairs.{from_of, to_of, paired}
 use Rattle.versions.specs.Table.{elem}
 use Rattle.versions.proofs.Repeated.{pair-repeated, rule-repeated}
-use Rattle.information.specs.declared.Presence.{Presence}
-use Rattle.information.specs.declared.Presence.TheVariants.{Missing, Given}
+use Rattle.information.specs.Presence.{Presence, Presence.Missing, Presence.Given}
 use Rattle.server.specs.FirstFlight.{may_use, first_accepted, with_information, decide}
 
 module _ (ps qs : List (List ℕ)) (pair : List ℕ)

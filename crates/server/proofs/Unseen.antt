@@ -18,7 +18,7 @@ use Rattle.lists.specs.Wire.{all_below, version_bytes}
 use Rattle.lists.proofs.Entries.{number-bytes_of, entries-list_bytes}
 use Rattle.information.specs.Information.{chosen_of, available_of, information_bytes}
 use Rattle.information.specs.Limits.{max_available, max_information}
-use Rattle.information.specs.declared.Presence.TheVariants.{Given}
+use Rattle.information.specs.Presence.{Presence.Given}
 use Rattle.information.proofs.Bytes.{length-information}
 use Rattle.server.specs.FirstFlight.{may_use, first_accepted, flight_rules, with_information, decide}
 
@@ -87,12 +87,8 @@ module _ (one other : List ℕ) (d : DifferByReserved one other) where
   pub same-decision : (readable accepted : List ℕ) (pairs : List (List ℕ)) (barred : List ℕ) (version : ℕ) →
       decide readable accepted pairs barred version Given one ≡ decide readable accepted pairs barred version Given other
   unfolding decide
-  same-decision readable accepted pairs barred version = go (table_keeps_rule accepted) refl
-    where
-      go : (b : Bool) → table_keeps_rule accepted ≡ b →
-          decide readable accepted pairs barred version Given one ≡ decide readable accepted pairs barred version Given other
-      go true e = rw (same-with accepted pairs barred version e)
-      go false e = rw (e, or-true (not (table_keeps_rule readable)))
+  same-decision readable accepted pairs barred version =
+      grind (arith, same-with accepted pairs barred version)
 
 -- The same of two informations by what they say: a Chosen Version that is not reserved, and two Available lists, both
 -- within 255 entries

@@ -11,7 +11,7 @@ use Rattle.versions.specs.Table.{elem, entries_keep_rule, table_keeps_rule}
 use Rattle.versions.specs.Version.{reserved, usable}
 use Rattle.lists.specs.Wire.{entries, list_bytes}
 use Rattle.information.specs.Information.{information_bytes}
-use Rattle.information.specs.declared.Presence.TheVariants.{Missing, Given}
+use Rattle.information.specs.Presence.{Presence.Missing, Presence.Given}
 use Rattle.server.specs.FirstFlight.{Act, Act.negotiate, Act.use-version, may_use, first_accepted, decide}
 
 -- The server reads 3. It accepts a table, has pairs, and a first flight of version 3 comes with given information

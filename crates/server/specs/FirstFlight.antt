@@ -2,19 +2,19 @@
 -- not in the order of their numbers, but in document 01's own: "31 to 36, 41, 43 and 51 only, in its own order above".
 -- That is 41, 43 (`server_rules`); where the version is readable and information is given, 31 to 36 and 51
 -- (`flight_rules`). In each of the two lists the numbers rise.
-use Rattle.std.specs.Prelude.{ℕ, Bool, cond, not, ◌&&◌, ◌||◌, List, [], ◌∷◌, ◌++◌, eqb, ltb, length}
+use Rattle.std.specs.Prelude.{ℕ, Bool, cond, not, ◌&&◌, ◌||◌, List, [], ◌∷◌, ◌++◌, eqb, ltb, length, Result, Ok, Err}
 use Rattle.refusals.specs.Reply.{Reply, Reply.answered, refuse}
 use Rattle.refusals.specs.Rule.{Rule, Rule.◌when◌, judged}
 use Rattle.refusals.specs.declared.Call.TheVariants.{Reading}
+use Rattle.refusals.specs.declared.Refusal.{Refusal}
 use Rattle.versions.specs.Pairs.{paired, pairs_keep_rule}
 use Rattle.versions.specs.Table.{elem, table_keeps_rule}
 use Rattle.information.specs.Information.{chosen_of, available_of, form_rules, sender_rules}
-use Rattle.information.specs.declared.Presence.{Presence}
-use Rattle.information.specs.declared.Presence.TheVariants.{Missing, Given}
+use Rattle.information.specs.Presence.{Presence, Presence.Missing, Presence.Given}
 use Rattle.information.specs.declared.Sender.TheVariants.{Client}
 use Rattle.server.specs.Limits.{max_barred}
 use Rattle.server.specs.declared.Decision.{Decision}
-use Rattle.server.specs.declared.Decision.TheVariants.{Refused, Negotiate, Use}
+use Rattle.server.specs.declared.Decision.TheVariants.{Negotiate, Use}
 
 -- The answers that are no refusal
 pub data Act : Type 0 where
@@ -22,10 +22,13 @@ pub data Act : Type 0 where
   use-version : ℕ → Act
 
 -- The cases of `Decision`
-abbrev pub decision_reply : Decision → Reply Act
-decision_reply (Refused r) = refuse Reading r.0
-decision_reply Negotiate = answered negotiate
-decision_reply (Use v) = answered (use-version v)
+abbrev pub shown_decision : Decision → Act
+shown_decision Negotiate = negotiate
+shown_decision (Use v) = use-version v
+
+abbrev pub decision_reply : Result Decision Refusal → Reply Act
+decision_reply (Ok d) = answered (shown_decision d)
+decision_reply (Err r) = refuse Reading r.0
 
 -- The tables and pairs that the server has: "a table of versions whose first flights it can read, a table of those
 -- it accepts, and pairs". Document 02, C-17: "up to 64 barred versions, of any value, for the flight at hand (more:

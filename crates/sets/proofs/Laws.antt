@@ -4,30 +4,28 @@
 use Prim.Native.Nat.{ℕ, ◌+◌, ◌*◌, ◌^◌, ◌≤◌, ◌<◌}
 use mathlib.Core.Bool.{Bool, true, false, cond, ◌||◌}
 use mathlib.Core.List.{List, [], ◌∷◌, ◌++◌}
-use mathlib.Core.Option.{Option, Option.none, Option.some, none-ne-some}
+use Rattle.std.specs.Prelude.{Option, None, Some}
+use Rattle.std.proofs.lemmas.Option.{none-some}
 use mathlib.Core.Path.{◌≡◌, refl, sym, ap, ◌∙◌}
 use native.Mathlib.Omega.{arith}
 use lib.Bits.{bit_or}
 use lib.Count.{ones, count_trailing_zeros}
-use lib.Dec.{leb}
 use lib.ListN.{length, get_or, length-append}
-use borrow.Author.Tests.{leb-true, leb-false}
 use Rattle.refusals.specs.Reply.{Reply.answered, refuse}
 use Rattle.refusals.specs.declared.Call.TheVariants.{Reading}
 use Rattle.refusals.proofs.Rules.{refused-not-answered}
 use Rattle.versions.specs.Table.{elem, table_keeps_rule}
-use Rattle.versions.specs.Words.{word_bits, bit_at, bit, word_where, members}
+use Rattle.versions.specs.Words.{word_bits, bit_at, bit, word_where}
 use Rattle.versions.proofs.Bits.{bit-where, bit_past, word_below, word_same, none-set, word-either, ones-where}
 use Rattle.versions.proofs.Members.{members-same}
 use Rattle.lists.specs.Limits.{max_list}
 use Rattle.lists.specs.Wire.{entry_at}
-use Rattle.lists.proofs.Entries.{entry_at-there, entry_at-past}
 use Rattle.choosing.specs.Choice.{or_nothing_in_common, preferred, choose}
 use Rattle.choosing.proofs.Chosen.{bad-table}
 use Rattle.choosing.proofs.Laws.{choose-preferred}
 use Rattle.versions.proofs.Lists.{elem-append}
 use Rattle.sets.specs.Sets.{held_word, held_count, list_word, choose_from_word, joined}
-use Rattle.sets.proofs.Lowest.{preferred-by-word, lowest-there, lowest-past, word-bad-table, word_made}
+use Rattle.sets.proofs.Lowest.{preferred-by-word, lowest-member, word-bad-table, word_made}
 
 -- What the bits of a list's word say
 module _ (t l : List ℕ) (j : ℕ) where
@@ -46,23 +44,6 @@ word-at-most t l = word_below (λ v. elem v l) t
 -- "its count of ones is how many table entries the list holds"
 pub ones-are-held : (t l : List ℕ) → ones (held_word t l) ≡ held_count t l
 ones-are-held t l = ones-where (λ v. elem v l) t
-
--- "the most preferred member is the lowest set place of the word". Of any word: the table entry there, and none where that
--- place is past the table
-lowest-member : (t : List ℕ) (w : ℕ) → table_keeps_rule t ≡ true →
-    entry_at t (count_trailing_zeros word_bits w) ≡ preferred t (members w t)
-lowest-member t w kept = go (leb (length t) place) refl
-  where
-    place : ℕ
-    place = count_trailing_zeros word_bits w
-
-    go : (b : Bool) → leb (length t) place ≡ b → entry_at t place ≡ preferred t (members w t)
-    go true e =
-        let past = leb-true (length t) place e in
-        entry_at-past t place past ∙ sym (lowest-past t w kept past)
-    go false e =
-        let there = leb-false (length t) place e in
-        entry_at-there t place there ∙ sym (lowest-there t w kept there)
 
 -- of a list's word: the preferred entry, and none where the word is 0
 pub lowest-is-preferred : (t l : List ℕ) → table_keeps_rule t ≡ true →
@@ -94,28 +75,28 @@ unfolding choose_from_word
 bits-past-ignored t a b same = rw (members-same t a b same)
 
 -- nothing is preferred, nothing is chosen, nothing is held
-nothing-preferred : (t l : List ℕ) → held_word t l ≡ 0 → preferred t l ≡ none
+nothing-preferred : (t l : List ℕ) → held_word t l ≡ 0 → preferred t l ≡ None
 unfolding preferred word_where
 nothing-preferred [] l e = refl
 nothing-preferred (v ∷ t) l e = go (elem v l) e (nothing-preferred t l)
   where
-    go : (b : Bool) → bit b + 2 * held_word t l ≡ 0 → (held_word t l ≡ 0 → preferred t l ≡ none) →
-        cond b (some v) (preferred t l) ≡ none
+    go : (b : Bool) → bit b + 2 * held_word t l ≡ 0 → (held_word t l ≡ 0 → preferred t l ≡ None) →
+        cond b (Some v) (preferred t l) ≡ None
     go true e ih = absurd (omega arith)
     go false e ih = ih (omega arith)
 
-nothing-chosen : (o : Option ℕ) → or_nothing_in_common o ≡ refuse Reading 42 → o ≡ none
-nothing-chosen none e = refl
-nothing-chosen (some v) e = absurd (refused-not-answered 42 Reading v (sym e))
+nothing-chosen : (o : Option ℕ) → or_nothing_in_common o ≡ refuse Reading 42 → o ≡ None
+nothing-chosen None e = refl
+nothing-chosen (Some v) e = absurd (refused-not-answered 42 Reading v (sym e))
 
-nothing-held : (t l : List ℕ) → preferred t l ≡ none → held_word t l ≡ 0
+nothing-held : (t l : List ℕ) → preferred t l ≡ None → held_word t l ≡ 0
 unfolding preferred word_where
 nothing-held [] l e = refl
 nothing-held (v ∷ t) l e = go (elem v l) e (nothing-held t l)
   where
-    go : (b : Bool) → cond b (some v) (preferred t l) ≡ none → (preferred t l ≡ none → held_word t l ≡ 0) →
+    go : (b : Bool) → cond b (Some v) (preferred t l) ≡ None → (preferred t l ≡ None → held_word t l ≡ 0) →
         bit b + 2 * held_word t l ≡ 0
-    go true e ih = absurd (none-ne-some v (sym e))
+    go true e ih = absurd (none-some v (sym e))
     go false e ih = rw (ih e)
 
 -- 42 is given exactly where the word is 0

@@ -1,4 +1,3 @@
-pub mod Injective
 pub mod Laws
 pub mod Lowest
 pub mod Rising

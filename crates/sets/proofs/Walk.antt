@@ -1,7 +1,8 @@
 -- The walk that makes the word of a list, from the last table entry down: before entry i the word so far is that of the
 -- entries from i on. One walk for a list of numbers and for one on the wire.
 use Prim.Native.Nat.{ℕ, ◌+◌, ◌-◌, ◌*◌, ◌^◌, ◌≤◌, ◌<◌}
-use mathlib.Core.Bool.{true}
+use mathlib.Core.Bool.{Bool, true, false}
+use mir.Val.{bool_byte}
 use mathlib.Core.List.{List}
 use mathlib.Core.Path.{◌≡◌, ap, ◌∙◌}
 use native.Mathlib.Omega.{arith}
@@ -18,6 +19,11 @@ walk_begins t l = let le : length t ≤ length t = omega arith in rw (drop_of_le
 
 pub walk_ends : (t l : List ℕ) (i : ℕ) → i ≤ 0 → held_word (drop i t) l ≡ held_word t l
 walk_ends t l i h = let z : i ≡ 0 = omega arith in rw z
+
+-- A test as a number is its bit
+pub held-bit : (n : ℕ) (b c : Bool) → n ≡ bool_byte b → b ≡ c → n ≡ bit c
+held-bit n true c e h = e ∙ ap bit h
+held-bit n false c e h = e ∙ ap bit h
 
 -- A turn of the walk, which comes to the entry before i
 pub record Turn (t l : List ℕ) (i word : ℕ) : Type 0 where

@@ -2,16 +2,12 @@
 -- preferred member is the lowest set place of the word, and its count of ones is how many table entries the list holds."
 use Rattle.std.specs.Prelude.{ℕ, not, List, [], ◌∷◌, length}
 use Rattle.std.specs.Int.Bits.{bit_or}
-use Rattle.refusals.specs.Reply.{Reply, Reply.refused, Reply.answered, refuse}
+use Rattle.refusals.specs.Reply.{Reply, Reply.refused, Reply.answered}
 use Rattle.refusals.specs.Rule.{Rule, Rule.◌when◌, judged}
 use Rattle.refusals.specs.declared.Call.TheVariants.{Reading}
 use Rattle.versions.specs.Table.{elem, table_keeps_rule}
 use Rattle.versions.specs.Words.{entries_where, word_where, members}
 use Rattle.choosing.specs.Choice.{choice_rules, or_nothing_in_common, preferred}
-use Rattle.sets.specs.declared.ListWord.{ListWord}
-use Rattle.sets.specs.declared.ListWord.TheVariants as word
-use Rattle.sets.specs.declared.Held.{Held}
-use Rattle.sets.specs.declared.Held.TheVariants as held
 
 -- "a list becomes a word": bit j tells whether table entry j occurs in the list
 abbrev pub held_word : List ℕ → List ℕ → ℕ
@@ -42,12 +38,3 @@ abbrev pub joined : Reply ℕ → Reply ℕ → Reply ℕ
 joined (refused n c) b = refused n c
 joined (answered a) (refused n c) = refused n c
 joined (answered a) (answered b) = answered (bit_or a b)
-
--- The cases of `ListWord` and `Held`
-abbrev pub word_reply : ListWord → Reply ℕ
-word_reply (word.Refused r) = refuse Reading r.0
-word_reply (word.Word w) = answered w
-
-abbrev pub held_reply : Held → Reply ℕ
-held_reply (held.Refused r) = refuse Reading r.0
-held_reply (held.Count n) = answered n

@@ -9,15 +9,3 @@ slot_count = 4096
 -- How many entries of the list are looked up at a time
 abbrev pub group : ℕ
 group = 16
-
--- How many factors there are to choose from
-abbrev pub factor_count : ℕ
-factor_count = 8
-
--- How many rounds there are at the most
-abbrev pub max_rounds : ℕ
-max_rounds = 8
-
--- So many entries, of a table or left by a round, are sought by passes
-abbrev pub few : ℕ
-few = 6

@@ -1,8 +1,10 @@
 -- What the functions of the search promise each other. No public contract cites these definitions.
-use Rattle.std.specs.Prelude.{ℕ, ◌*◌, ◌/◌, ◌%◌, ◌^◌, ◌<◌, ◌≤◌, true, false, cond, eqb, List, ◌⊎◌, ◌≡◌, length, drop, get_or}
+use Rattle.std.specs.Prelude.{ℕ, ◌*◌, ◌/◌, ◌%◌, ◌^◌, ◌<◌, ◌≤◌, true, false, cond, eqb, List, ◌⊎◌, ◌≡◌, length, get_or}
 use Rattle.lists.specs.Wire.{turned}
 use Rattle.versions.specs.Table.{elem}
 use Rattle.slots.specs.Limits.{slot_count}
+use Rattle.slots.specs.declared.rounds.Mark.{Mark}
+use Rattle.slots.specs.declared.rounds.Mark.TheVariants.{Absent, Standing}
 
 -- The slot of a word under a factor. Nothing is asked of it but that it is one of the slots, that 0 has the slot 0, and
 -- that 1 has another: clashes cost time, and no answer
@@ -31,45 +33,39 @@ WordStands slots factor word = get_or slots (slot_of word factor) 0 ≡ word
 abbrev pub Stands : List ℕ → ℕ → ℕ → Type 0
 Stands slots factor version = WordStands slots factor (turned version)
 
--- No version that stands is an entry from `from` up to, and not with, `i`
-abbrev pub Passed : List ℕ → List ℕ → ℕ → ℕ → ℕ → Type 0
-Passed slots list factor from i = (v : ℕ) → Stands slots factor v → elem v (drop from list) ≡ elem v (drop i list)
+-- No version that stands is an entry of the list before the rest of it
+abbrev pub Passed : List ℕ → List ℕ → List ℕ → ℕ → Type 0
+Passed slots list rest factor = (v : ℕ) → Stands slots factor v → elem v list ≡ elem v rest
 
--- `place` is the first from `from` up to `to` whose entry stands, or `to`
-pub record NextHit (slots list : List ℕ) (factor from to place : ℕ) : Type 0 where
-  pub low : from ≤ place
-  pub high : place ≤ to
-  pub passed : Passed slots list factor from place
-  pub hit : place < to → Stands slots factor (get_or list place 0)
+-- `rest` is what is left of the list from its first entry on that stands, or empty
+pub record FromHit (slots list rest : List ℕ) (factor : ℕ) : Type 0 where
+  pub passed : Passed slots list rest factor
+  pub shorter : length rest ≤ length list
+  pub hit : 0 < length rest → Stands slots factor (get_or rest 0 0)
 
--- What is known of a version that stood in its slot, once the entries before `at` are looked up. It still stands, and
+-- What is known of a version that stood in its slot, once the entries before the rest are looked up. It still stands, and
 -- the rest of the list answers for the whole; or its slot was emptied, since the list holds it
-abbrev pub Told : List ℕ → List ℕ → ℕ → ℕ → ℕ → Type 0
-Told slots list factor at v =
-    (Stands slots factor v × (elem v list ≡ elem v (drop at list)))
+abbrev pub Told : List ℕ → List ℕ → List ℕ → ℕ → ℕ → Type 0
+Told slots list rest factor v =
+    (Stands slots factor v × (elem v list ≡ elem v rest))
     ⊎ ((Stands slots factor v → ⊥) × (elem v list ≡ true))
 
--- The entries before `at` were looked up in `before`, which became `slots`
-pub record Scanned (before slots list : List ℕ) (factor at : ℕ) : Type 0 where
-  pub high : at ≤ length list
-  pub told : (v : ℕ) → v < 2 ^ 32 → Stands before factor v → Told slots list factor at v
+-- The entries before the rest were looked up in `before`, which became `slots`
+abbrev pub Scanned : List ℕ → List ℕ → List ℕ → List ℕ → ℕ → Type 0
+Scanned before slots list rest factor = (v : ℕ) → v < 2 ^ 32 → Stands before factor v → Told slots list rest factor v
 
--- The marks of the table's entries: 0 for one that the list does not hold, any other for one that is not judged yet.
--- `best` is the least place that is known to be held, or the table's length
-pub record Judged (table list marks : List ℕ) (best : ℕ) : Type 0 where
-  pub high : best ≤ length table
-  pub absent : (k : ℕ) → k < best → get_or marks k 0 ≡ 0 → elem (get_or table k 0) list ≡ false
-  pub held : best < length table → elem (get_or table best 0) list ≡ true
+-- An entry of the table that is marked `Absent` is not in the list; any other is not judged yet
+abbrev pub AbsentNotHeld : List ℕ → List ℕ → List Mark → Type 0
+AbsentNotHeld table list marks =
+    (k : ℕ) → k < length table → get_or marks k Absent ≡ Absent → elem (get_or table k 0) list ≡ false
 
--- A mark of 2: the entry stands in its slot
-abbrev pub Marked : List ℕ → List ℕ → List ℕ → ℕ → ℕ → Type 0
-Marked table slots marks factor upto = (k : ℕ) → k < upto → get_or marks k 0 ≡ 2 → Stands slots factor (get_or table k 0)
+-- Each entry that is marked `Standing` stands in its slot
+abbrev pub Marked : List ℕ → List ℕ → List Mark → ℕ → Type 0
+Marked table slots marks factor =
+    (k : ℕ) → k < length table → get_or marks k Absent ≡ Standing → Stands slots factor (get_or table k 0)
 
--- The entries before `best` with a mark of 2 are told
-abbrev pub MarkedTold : List ℕ → List ℕ → List ℕ → List ℕ → ℕ → ℕ → ℕ → Type 0
-MarkedTold table list slots marks factor at best =
-    (k : ℕ) → k < best → get_or marks k 0 ≡ 2 → get_or table k 0 < 2 ^ 32 → Told slots list factor at (get_or table k 0)
-
--- No mark of 0 is new
-abbrev pub NoneNew : List ℕ → List ℕ → Type 0
-NoneNew before marks = (k : ℕ) → get_or marks k 0 ≡ 0 → get_or before k 0 ≡ 0
+-- The entries that are marked `Standing` are told
+abbrev pub MarkedTold : List ℕ → List ℕ → List ℕ → List ℕ → List Mark → ℕ → Type 0
+MarkedTold table list rest slots marks factor =
+    (k : ℕ) → k < length table → get_or marks k Absent ≡ Standing → get_or table k 0 < 2 ^ 32
+    → Told slots list rest factor (get_or table k 0)

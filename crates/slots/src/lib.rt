@@ -5,7 +5,7 @@
 ghost use Rattle.std.specs.Prelude.{false, ◌≡◌, ◌<◌, get_or};
 ghost use Rattle.lists.specs.Wire.{entries};
 ghost use Rattle.versions.specs.Table.{elem};
-ghost use Rattle.slots.specs.First.{first_place};
+ghost use Rattle.slots.specs.First.{place_found};
 
 mod factors; // which factor sends the words of a table to slots of their own
 mod rounds; // the search by slots
@@ -19,66 +19,51 @@ use versions::MAX_TABLE;
 // So many entries, of a table or left by a round, are sought each by a pass over the list. So many of the table's first
 // are judged in the first round.
 const FEW: usize = 6;
-// How many slots there are.
-const SLOTS: usize = 4096;
-// The mark of a table entry that is known not to be in the list.
-const ABSENT: u8 = 0;
 // So many comparisons take no longer than to make the slots.
 const CHEAP: usize = 2048;
 
-// The place of the first entry of the table that occurs in a list on the wire, counted from 0; the table's length where
-// none does. It judges neither of them.
-pub fn first_in_bytes(table: &[u32], bytes: &[u8]) -> usize
-    ensures { result ≡ first_place table.now (entries bytes.now) }
+// The place of the first entry of the table that occurs in a list on the wire, counted from 0; none where none does. It
+// judges neither of them.
+#[tactic(auto, using(crate::proofs::Laws::first_is), unfolding(crate::specs::First::place_found))]
+pub fn first_in_bytes(table: &[u32], bytes: &[u8]) -> Option<usize>
+    ensures { result ≡ place_found table.now (entries bytes.now) }
 {
     if is_quick(table.len(), bytes.len() / VERSION_BYTES) {
         return by_passes(table, bytes);
     }
     let first = table[0];
     if contains_in_bytes(bytes, first) {
-        return 0;
+        return Some(0);
     }
-    // Lent anew: the compiler then keeps the slices above in registers.
-    in_parts(&table[0..], &bytes[0..])
+    in_parts(table, bytes)
 }
 
 // Whether passes over the list are as quick as slots are.
 fn is_quick(table: usize, list: usize) -> bool
     ensures { result ≡ false → 0 < table }
 {
-    if table <= FEW {
-        return true;
-    }
-    list <= CHEAP / table
+    table <= FEW || list <= CHEAP / table
 }
 
 // The same by slots, where the table's first entry is not in the list. Of a table that is longer than the marks, which no
-// choice takes, the front goes by slots and the rest by passes. (With two calls of `by_slots` the compiler leaves it a
-// function of its own, and short lists have nothing of its stack.)
-fn in_parts(table: &[u32], bytes: &[u8]) -> usize
+// choice takes, the front goes by slots and the rest by passes.
+#[tactic(auto, using(crate::proofs::Laws::found_inside, crate::proofs::Laws::found_in_front))]
+fn in_parts(table: &[u32], bytes: &[u8]) -> Option<usize>
     requires { elem (get_or table.now 0 0) (entries bytes.now) ≡ false }
-    ensures { result ≡ first_place table.now (entries bytes.now) }
+    ensures { result ≡ place_found table.now (entries bytes.now) }
 {
-    if table.len() <= MAX_TABLE {
-        return by_slots(table, bytes);
+    let (front, rest) = table.split_at(table.len().min(MAX_TABLE));
+    if let Some(place) = by_slots(front, bytes) {
+        return Some(place);
     }
-    let place = by_slots(&table[..MAX_TABLE], bytes);
-    if place < MAX_TABLE {
-        return place;
-    }
-    MAX_TABLE + by_passes(&table[MAX_TABLE..], bytes)
+    by_passes(rest, bytes).map(|place| front.len() + place)
 }
 
 // The place of the first entry of the table that occurs in the list, by a pass over the list for each entry.
-fn by_passes(table: &[u32], bytes: &[u8]) -> usize
-    ensures { result ≡ first_place table.now (entries bytes.now) }
+fn by_passes(table: &[u32], bytes: &[u8]) -> Option<usize>
+    ensures { result ≡ place_found table.now (entries bytes.now) }
 {
-    let mut k = 0;
-    while k < table.len() {
-        if contains_in_bytes(bytes, table[k]) {
-            return k;
-        }
-        k += 1;
-    }
-    k
+    table
+        .iter()
+        .position(|version| contains_in_bytes(bytes, *version))
 }

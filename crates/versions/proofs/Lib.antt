@@ -6,4 +6,5 @@ pub mod Members
 pub mod Repeated
 pub mod Reserved
 pub mod WithoutReserved
+pub mod Searched
 pub mod Worked

@@ -12,7 +12,7 @@ use lib.Dec.{eqb, lit<}
 use lib.ListN.{length, drop, get_or, drop_of_length-le}
 use borrow.Author.Tests.{eqb-true, eq-eqb, ne_eqb}
 use Rattle.versions.specs.Table.{elem}
-use Rattle.versions.specs.Words.{bit_at, bit, keep_if, entries_where, word_where, members}
+use Rattle.versions.specs.Words.{bit_at, keep_if, entries_where, word_where, members}
 use Rattle.versions.proofs.Bits.{lowest-bit, rest-bits, bit-says}
 use Rattle.versions.proofs.Lists.{drop-next}
 

@@ -1,7 +1,8 @@
 // Reserved numbers, tables and lists of versions.
-ghost use Rattle.std.specs.Prelude.{◌≡◌};
+ghost use Rattle.std.specs.Prelude.{true, ◌≡◌};
+ghost use Rattle.std.specs.Option.{option_map};
 ghost use Rattle.versions.specs.Reserved.{reserved_keep_rule};
-ghost use Rattle.versions.specs.Table.{elem, place_of, table_keeps_rule};
+ghost use Rattle.versions.specs.Table.{elem, place_in, table_if, table_keeps_rule};
 ghost use Rattle.versions.specs.Version.{reserved, usable};
 
 use crate::{MAX_RESERVED, MAX_TABLE};
@@ -19,101 +20,88 @@ pub fn is_reserved(version: u32) -> bool
 }
 
 // Whether a table or a pair may hold the version: it is neither 0 nor reserved.
+#[tactic(auto, unfolding(crate::specs::Version::usable))]
 pub fn is_usable(version: u32) -> bool
     ensures { result ≡ usable version }
 {
-    if version == 0 {
-        return false;
-    }
-    !is_reserved(version)
+    version != 0 && !is_reserved(version)
 }
 
 // Whether the version occurs in the list.
+#[tactic(auto, using(crate::proofs::Searched::elem_any))]
 pub fn contains(list: &[u32], version: u32) -> bool
     ensures { result ≡ elem version list.now }
 {
-    let mut i = 0;
-    while i < list.len() {
-        if list[i] == version {
-            return true;
-        }
-        i += 1;
-    }
-    false
+    list.contains(&version)
 }
 
-// Whether the version occurs in the list. For short lists, and for searches that mostly find nothing: it goes over the
-// whole list, with no early exit, so that the compiler compares several entries at a time.
-pub fn holds(list: &[u32], version: u32) -> bool
-    ensures { result ≡ elem version list.now }
+// The first place of the version in the list, counted from 0; none where it does not occur. (By `position` a server's choice
+// with 1,024 pairs took up to three times as long.)
+pub fn place_of(list: &[u32], version: u32) -> Option<usize>
+    ensures { result ≡ place_in version list.now }
 {
-    let mut found = false;
-    let mut i = 0;
-    while i < list.len() {
+    for i in 0..list.len() {
         if list[i] == version {
-            found = true;
+            return Some(i);
         }
-        i += 1;
     }
-    found
-}
-
-// The first place of the version in the list, counted from 0; the list's length where it has none.
-pub fn place_of(list: &[u32], version: u32) -> usize
-    ensures { result ≡ place_of version list.now }
-{
-    let mut i = 0;
-    while i < list.len() {
-        if list[i] == version {
-            return i;
-        }
-        i += 1;
-    }
-    i
+    None
 }
 
 // Whether a table of versions keeps its rule: 1 to MAX_TABLE entries, none 0, none reserved, none twice.
+#[tactic(auto, unfolding(crate::specs::Table::table_keeps_rule))]
 pub fn is_table(table: &[u32]) -> bool
     ensures { result ≡ table_keeps_rule table.now }
 {
-    let count = table.len();
-    if count < 1 {
+    if table.is_empty() || MAX_TABLE < table.len() {
         return false;
     }
-    if MAX_TABLE < count {
-        return false;
-    }
-    let mut i = 0;
-    while i < count {
-        let version = table[i];
-        i += 1;
-        if !is_usable(version) {
+    for i in 0..table.len() {
+        if !is_usable(table[i]) {
             return false;
         }
-        if holds(&table[i..], version) {
+        if contains(&table[i + 1..], table[i]) {
             return false;
         }
     }
     true
 }
 
+// A table of versions that keeps its rule, best first.
+#[derive(Clone, Copy)]
+pub struct Table<'a> {
+    pub versions: &'a [u32],
+    ghost rule: { table_keeps_rule versions.now ≡ true },
+}
+
+impl<'a> Table<'a> {
+    // The versions as a table; none where they break its rule.
+    pub fn of(versions: &'a [u32]) -> Option<Table<'a>>
+        ensures { option_map (λ table. table.versions.now) result ≡ table_if versions.now }
+    {
+        if is_table(versions) {
+            Some(Table { versions })
+        } else {
+            None
+        }
+    }
+}
+
 // Whether reserved numbers to send keep their rule: at most MAX_RESERVED, each reserved, none twice. Of more than that it
-// reads none.
+// reads none. (The loop is `is_table`'s but for the test of an entry. To share it the test would go in as a closure, with
+// clauses longer than the loop; the argument is shared: `Once`, proofs/Lists.antt.)
+#[tactic(auto, unfolding(crate::specs::Reserved::reserved_keep_rule))]
 pub fn are_reserved(numbers: &[u32]) -> bool
     ensures { result ≡ reserved_keep_rule numbers.now }
 {
-    let count = numbers.len();
-    if MAX_RESERVED < count {
+    if MAX_RESERVED < numbers.len() {
         return false;
     }
-    let mut i = 0;
-    while i < count {
-        let number = numbers[i];
-        i += 1;
-        if !is_reserved(number) {
+    for i in 0..numbers.len() {
+        if !is_reserved(numbers[i]) {
             return false;
         }
-        if contains(&numbers[i..], number) {
+        if contains(&numbers[i + 1..], numbers[i]) {
             return false;
         }
     }

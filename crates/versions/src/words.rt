@@ -10,10 +10,9 @@ use crate::table::place_of;
 pub fn mark(table: &[u32], version: u32, word: u64) -> u64
     ensures { result ≡ marked (take word_bits table.now) version word }
 {
-    let place = place_of(table, version);
-    if table.len() <= place {
+    let Some(place) = place_of(table, version) else {
         return word;
-    }
+    };
     if WORD_BITS <= place {
         return word;
     }

@@ -15,6 +15,7 @@ fn starts(rt: &impl Print) -> io::Result<()> {
         rt,
         "start with table 14, 12, 10, Original 12, empty connection IDs: ",
         &[],
+        &[],
         12,
         &[],
         &[],
@@ -23,6 +24,7 @@ fn starts(rt: &impl Print) -> io::Result<()> {
     begin(
         rt,
         "start with two equal connection IDs of 20 bytes: ",
+        &[],
         &[],
         12,
         &id,

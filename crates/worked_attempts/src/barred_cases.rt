@@ -1,6 +1,6 @@
 // Pairs barred for an attempt's flights (document 02, C-17). Table 3, 4, 1, 2, pairs 1 to 2 and 3 to 4, Original 1, as in P10.
 use crate::records;
-use crate::show_client::{begin_barring, outcome, own};
+use crate::show_client::{begin, outcome, own};
 use std::io;
 use versions::MAX_PAIRS;
 
@@ -11,7 +11,7 @@ pub(crate) fn all(rt: &impl Print) -> io::Result<()> {
 }
 
 fn starts(rt: &impl Print) -> io::Result<()> {
-    begin_barring(
+    begin(
         rt,
         "start with barred pair 12 to 12: ",
         &[],
@@ -21,7 +21,7 @@ fn starts(rt: &impl Print) -> io::Result<()> {
         &[],
     )?;
     let most = [[14u32, 10]; MAX_PAIRS];
-    begin_barring(
+    begin(
         rt,
         "start with as many barred pairs as there may be: ",
         &[],
@@ -31,7 +31,7 @@ fn starts(rt: &impl Print) -> io::Result<()> {
         &[],
     )?;
     let more = [[14u32, 10]; MAX_PAIRS + 1];
-    begin_barring(
+    begin(
         rt,
         "start with one barred pair more, Original 13: ",
         &[],

@@ -3,15 +3,14 @@
 ghost use Rattle.attempt.specs.Events.{Reachable};
 
 use crate::records;
-use crate::show_client::{journal, told};
+use crate::show_client::told;
 use attempt::{Attempt, Event};
-use client_start::start;
 use client_step::step_any;
 use journal::{Journal, note};
 use std::io;
 
 pub(crate) fn all(rt: &impl Print) -> io::Result<()> {
-    journal(rt, "journal of a start: ", records::plain())?;
+    told(rt, "journal of a start: ", records::plain().journal)?;
     around_the_packet(rt)?;
     the_eight_run_over(rt)?;
     started_again(rt)?;
@@ -39,10 +38,10 @@ fn through_the_packet() -> Attempt
 }
 
 fn around_the_packet(rt: &impl Print) -> io::Result<()> {
-    journal(
+    told(
         rt,
         "journal of P4 with refused events around it: ",
-        through_the_packet(),
+        through_the_packet().journal,
     )
 }
 
@@ -50,25 +49,27 @@ fn around_the_packet(rt: &impl Print) -> io::Result<()> {
 fn the_eight_run_over(rt: &impl Print) -> io::Result<()> {
     let seventh = records::after_packet(through_the_packet());
     let eighth = records::after_datagram(seventh, b"\x40");
-    journal(rt, "and two events after the end: ", eighth)?;
+    told(rt, "and two events after the end: ", eighth.journal)?;
     let ninth = records::after_missing(eighth, 14);
-    journal(rt, "and a third: ", ninth)
+    told(rt, "and a third: ", ninth.journal)
 }
 
 // A start hands back an empty journal, whatever was in the place before.
 fn started_again(rt: &impl Print) -> io::Result<()> {
-    journal(rt, "journal of a start after it: ", records::paired())
+    told(
+        rt,
+        "journal of a start after it: ",
+        records::paired().journal,
+    )
 }
 
 // 255 is no answer of an event: on the record of a refused start nothing is noted.
 fn no_record(rt: &impl Print) -> io::Result<()> {
-    let started = start(&[14, 12, 10], &[], &[], 13, &[], &[]);
-    let stepped = step_any(started.attempt, Event::PacketProcessed, &[]);
-    let left = stepped.attempt;
+    let stepped = step_any(records::no_attempt(), Event::PacketProcessed);
     told(
         rt,
         "journal of a refused start's record after an event: ",
-        left.journal,
+        stepped.attempt.journal,
     )
 }
 

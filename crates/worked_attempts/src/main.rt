@@ -9,8 +9,7 @@ mod event_refusals; // "When the desk says no": 61 to 75
 mod journal_cases; // what happened to an attempt
 mod records; // the attempts that the cases go through
 mod reserved_cases; // the client's Version Information with reserved numbers
-mod say; // words, numbers, versions and refusals, printed
-mod show_client; // one start, own list, Version Information or event and one line
+mod show_client; // what is printed, and one start, own list, Version Information or event and one line
 mod slip_cases; // "Slips the old code made, or nearly": the client's
 mod start_refusals; // "When the desk says no": 43 to 45
 

@@ -3,23 +3,24 @@ ghost use Rattle.std.specs.Prelude.{true, [], ◌∷◌, ◌≡◌};
 ghost use Rattle.attempt.specs.Events.{Reachable};
 ghost use Rattle.attempt.specs.Start.{input_of, is_accepted};
 
-use attempt::{Attempt, Event};
+use attempt::{Attempt, End, Event, MAX_ID};
 use client_start::start;
 use client_step::step;
-use information::Presence;
+use journal::empty;
+use refusals::Refusal;
+use versions::MAX_TABLE;
 
 // The record of a start that is not refused.
+#[tactic(auto, using(crate::proofs::Accepted::is_opened))]
 fn open(table: &[u32], pairs: &[[u32; 2]], barred: &[[u32; 2]], original: u32) -> Attempt
     requires { is_accepted (input_of table.now pairs.now barred.now original (0xaa ∷ 0xbb ∷ []) (0xcc ∷ [])) ≡ true }
     ensures { Reachable result }
 {
-    let destination = [0xaau8, 0xbb];
-    let source = [0xccu8];
-    let started = start(table, pairs, barred, original, &destination, &source);
-    started.attempt
+    start(table, pairs, barred, original, &[0xaa, 0xbb], &[0xcc]).unwrap()
 }
 
 // Table 14, 12, 10, no pairs, Original 12: the start of P4 to P7.
+#[tactic(auto, using(crate::proofs::Accepted::plain))]
 pub(crate) fn plain() -> Attempt
     ensures { Reachable result }
 {
@@ -27,6 +28,7 @@ pub(crate) fn plain() -> Attempt
 }
 
 // Table 3, 4, 1, 2, pairs 1 to 2 and 3 to 4, Original 1: the start of P10 to P12.
+#[tactic(auto, using(crate::proofs::Accepted::paired))]
 pub(crate) fn paired() -> Attempt
     ensures { Reachable result }
 {
@@ -34,6 +36,7 @@ pub(crate) fn paired() -> Attempt
 }
 
 // The same with 3 to 4 barred (document 02, C-17).
+#[tactic(auto, using(crate::proofs::Accepted::barring))]
 pub(crate) fn barring() -> Attempt
     ensures { Reachable result }
 {
@@ -41,6 +44,7 @@ pub(crate) fn barring() -> Attempt
 }
 
 // The same with it turned round, 4 to 3, barred, and 1 to 4, from the Original Version.
+#[tactic(auto, using(crate::proofs::Accepted::barring_others))]
 pub(crate) fn barring_others() -> Attempt
     ensures { Reachable result }
 {
@@ -48,10 +52,54 @@ pub(crate) fn barring_others() -> Attempt
 }
 
 // Table 14, 1, no pairs, Original 14: the start of P8.
+#[tactic(auto, using(crate::proofs::Accepted::down_to_one))]
 pub(crate) fn down_to_one() -> Attempt
     ensures { Reachable result }
 {
     open(&[14, 1], &[], &[], 14)
+}
+
+// The record that stands for a refused start: no attempt is closed with 0.
+pub(crate) fn no_attempt() -> Attempt {
+    Attempt {
+        table: [0; MAX_TABLE],
+        table_len: 0,
+        rows: [0; MAX_TABLE],
+        destination: [0; MAX_ID],
+        destination_len: 0,
+        source: [0; MAX_ID],
+        source_len: 0,
+        original: 0,
+        attempted: 0,
+        acted: false,
+        heard: false,
+        end: End::Closed(Refusal(0)),
+        journal: empty(),
+    }
+}
+
+// The handshake ended, with Version Information.
+pub(crate) fn given(in_use: u32, information: &[u8]) -> Event {
+    Event::Outcome {
+        in_use,
+        information: Some(information),
+    }
+}
+
+// The handshake ended, and Version Information is missing.
+pub(crate) fn missing(in_use: u32) -> Event<'static> {
+    Event::Outcome {
+        in_use,
+        information: None,
+    }
+}
+
+// The record after an event.
+fn after(attempt: Attempt, event: Event) -> Attempt
+    requires { Reachable attempt }
+    ensures { Reachable result }
+{
+    step(attempt, event).attempt
 }
 
 // The record after a datagram.
@@ -59,8 +107,7 @@ pub(crate) fn after_datagram(attempt: Attempt, bytes: &[u8]) -> Attempt
     requires { Reachable attempt }
     ensures { Reachable result }
 {
-    let stepped = step(attempt, Event::Datagram, bytes);
-    stepped.attempt
+    after(attempt, Event::Datagram(bytes))
 }
 
 // The record after a genuine packet other than Version Negotiation was processed.
@@ -68,8 +115,7 @@ pub(crate) fn after_packet(attempt: Attempt) -> Attempt
     requires { Reachable attempt }
     ensures { Reachable result }
 {
-    let stepped = step(attempt, Event::PacketProcessed, &[]);
-    stepped.attempt
+    after(attempt, Event::PacketProcessed)
 }
 
 // The record after an outcome with Version Information.
@@ -77,12 +123,7 @@ pub(crate) fn after_outcome(attempt: Attempt, in_use: u32, bytes: &[u8]) -> Atte
     requires { Reachable attempt }
     ensures { Reachable result }
 {
-    let given = Event::Outcome {
-        in_use,
-        information: Presence::Given,
-    };
-    let stepped = step(attempt, given, bytes);
-    stepped.attempt
+    after(attempt, given(in_use, bytes))
 }
 
 // The record after an outcome whose Version Information is missing.
@@ -90,12 +131,7 @@ pub(crate) fn after_missing(attempt: Attempt, in_use: u32) -> Attempt
     requires { Reachable attempt }
     ensures { Reachable result }
 {
-    let missing = Event::Outcome {
-        in_use,
-        information: Presence::Missing,
-    };
-    let stepped = step(attempt, missing, &[]);
-    stepped.attempt
+    after(attempt, missing(in_use))
 }
 
 // `plain` after a packet that lists 10, 13, 14: it attempts 14.

@@ -1,32 +1,71 @@
-// One start, own list, Version Information, event or journal of a client, and one line with its answer.
+// What is printed, and one start, own list, Version Information, event or journal of a client and one line with its answer.
 ghost use Rattle.attempt.specs.Events.{Reachable};
 
-use crate::say::{number, refused, text, version, versions};
+use crate::records;
 use attempt::own::own_list;
-use attempt::{Answer, Attempt, End, Event, StartAnswer};
+use attempt::{Answer, Attempt, End, Event};
 use client_information::write_client_information;
 use client_start::start;
 use client_step::step;
-use information::Presence;
 use journal::{Journal, tell};
-use lists::{Entry, VERSION_BYTES, entry_at};
-use refusals::Written;
-use std::io;
+use lists::{VERSION_BYTES, entry_at};
+use refusals::{Call, Refusal, close_code};
+use std::{fmt, io};
 
-// A start with table 14, 12, 10 and nothing barred, which may be refused.
-pub(crate) fn begin(
-    rt: &impl Print,
-    label: &str,
-    pairs: &[[u32; 2]],
-    original: u32,
-    destination: &[u8],
-    source: &[u8],
-) -> io::Result<()> {
-    begin_barring(rt, label, pairs, &[], original, destination, source)
+// The number of a refusal, and its close code if it has one. Each program has its own: a crate for these lines is no plainer.
+#[derive(Drop)]
+struct Refused(Refusal);
+
+impl fmt::Display for Refused {
+    fn fmt<W: fmt::Write>(&self, f: &mut fmt::Formatter<W>) -> fmt::Result {
+        write!(f, "refused {}", u32::from(self.0))?;
+        match close_code(self.0, Call::Reading) {
+            Some(code) => write!(f, ", close code {code}"),
+            None => Ok(()),
+        }
+    }
 }
 
-// The same with barred pairs.
-pub(crate) fn begin_barring(
+// The answer of an event.
+#[derive(Drop)]
+struct Answered(Result<Answer, Refusal>);
+
+impl fmt::Display for Answered {
+    fn fmt<W: fmt::Write>(&self, f: &mut fmt::Formatter<W>) -> fmt::Result {
+        match self.0 {
+            Ok(Answer::Acted(attempted)) => write!(f, "attempt {attempted}"),
+            Ok(Answer::Noted) => write!(f, "noted"),
+            Ok(Answer::Completed(in_use)) => write!(f, "complete with {in_use}"),
+            Err(refusal) => write!(f, "{}", Refused(refusal)),
+        }
+    }
+}
+
+// How an attempt stands.
+#[derive(Drop)]
+struct Standing(End);
+
+impl fmt::Display for Standing {
+    fn fmt<W: fmt::Write>(&self, f: &mut fmt::Formatter<W>) -> fmt::Result {
+        match self.0 {
+            End::Open => write!(f, "open"),
+            End::Completed(in_use) => write!(f, "completed with {in_use}"),
+            End::Closed(refusal) => write!(f, "closed with {}", u32::from(refusal)),
+        }
+    }
+}
+
+// The rest of a line: the first numbers, as many as `count`, each behind a space. A count, since the own list and what a
+// journal tells have one beside their array.
+fn spaced<T: fmt::Display>(rt: &impl Print, numbers: &[T], count: usize) -> io::Result<()> {
+    for number in numbers.iter().take(count) {
+        print!(rt; " {number}")?;
+    }
+    println!(rt)
+}
+
+// A start with table 14, 12, 10, which may be refused.
+pub(crate) fn begin(
     rt: &impl Print,
     label: &str,
     pairs: &[[u32; 2]],
@@ -35,24 +74,17 @@ pub(crate) fn begin_barring(
     destination: &[u8],
     source: &[u8],
 ) -> io::Result<()> {
-    text(rt, label)?;
-    let started = start(&[14, 12, 10], pairs, barred, original, destination, source);
-    let answer = started.answer;
-    match answer {
-        StartAnswer::Refused(refusal) => refused(rt, refusal)?,
-        StartAnswer::Opened => text(rt, "opened")?,
+    match start(&[14, 12, 10], pairs, barred, original, destination, source) {
+        Ok(_) => println!(rt; "{label}opened"),
+        Err(refusal) => println!(rt; "{label}{}", Refused(refusal)),
     }
-    text(rt, "\n")
 }
 
 // The own list of an attempt.
 pub(crate) fn own(rt: &impl Print, label: &str, attempt: Attempt) -> io::Result<()> {
-    text(rt, label)?;
+    print!(rt; "{label}")?;
     let own = own_list(attempt);
-    let list = own.versions;
-    let count = own.count;
-    versions(rt, &list, count)?;
-    text(rt, "\n")
+    spaced(rt, &own.versions, own.count)
 }
 
 // The Version Information of an attempt's client, with reserved numbers and their places: its numbers in their order.
@@ -63,70 +95,31 @@ pub(crate) fn sent(
     reserved: &[[u32; 2]],
     buffer: &mut [u8],
 ) -> io::Result<()> {
-    text(rt, label)?;
+    print!(rt; "{label}")?;
     match write_client_information(attempt, reserved, buffer) {
-        Written::Refused(refusal) => {
-            text(rt, " ")?;
-            refused(rt, refusal)?;
-        }
-        Written::Count(count) => numbers(rt, buffer, count)?,
+        Ok(count) => numbers(rt, buffer, count),
+        Err(refusal) => println!(rt; " {}", Refused(refusal)),
     }
-    text(rt, "\n")
 }
 
-// The numbers that lie in the first bytes, as many as `count`.
+// The rest of a line: the numbers that lie in the first bytes, as many as `count`, each behind a space.
 fn numbers(rt: &impl Print, bytes: &[u8], count: usize) -> io::Result<()> {
     for place in 0..count / VERSION_BYTES {
-        match entry_at(bytes, place) {
-            Entry::Version(number) => version(rt, " ", number)?,
-            Entry::Nothing => {}
+        if let Some(number) = entry_at(bytes, place) {
+            print!(rt; " {number}")?;
         }
     }
-    Ok(())
-}
-
-fn answered(rt: &impl Print, answer: Answer) -> io::Result<()> {
-    match answer {
-        Answer::Refused(refusal) => refused(rt, refusal),
-        Answer::Acted(attempted) => version(rt, "attempt ", attempted),
-        Answer::Noted => text(rt, "noted"),
-        Answer::Completed(in_use) => version(rt, "complete with ", in_use),
-    }
-}
-
-// How an attempt stands.
-fn standing(rt: &impl Print, end: End) -> io::Result<()> {
-    match end {
-        End::Open => text(rt, "; record open\n"),
-        End::Completed(in_use) => {
-            version(rt, "; record completed with ", in_use)?;
-            text(rt, "\n")
-        }
-        End::Closed(cause) => {
-            text(rt, "; record closed with ")?;
-            number(rt, cause as u64)?;
-            text(rt, "\n")
-        }
-    }
+    println!(rt)
 }
 
 // One event: the answer, and how the attempt stands then.
-fn event(
-    rt: &impl Print,
-    label: &str,
-    attempt: Attempt,
-    event: Event,
-    bytes: &[u8],
-) -> io::Result<()>
+fn event(rt: &impl Print, label: &str, attempt: Attempt, event: Event) -> io::Result<()>
     requires { Reachable attempt }
 {
-    let stepped = step(attempt, event, bytes);
-    let next = stepped.attempt;
-    let answer = stepped.answer;
-    let end = next.end;
-    text(rt, label)?;
-    answered(rt, answer)?;
-    standing(rt, end)
+    let stepped = step(attempt, event);
+    let answer = Answered(stepped.answer);
+    let standing = Standing(stepped.attempt.end);
+    println!(rt; "{label}{answer}; record {standing}")
 }
 
 // A datagram came.
@@ -138,14 +131,14 @@ pub(crate) fn datagram(
 ) -> io::Result<()>
     requires { Reachable attempt }
 {
-    event(rt, label, attempt, Event::Datagram, bytes)
+    event(rt, label, attempt, Event::Datagram(bytes))
 }
 
 // A genuine packet other than Version Negotiation was processed (document 01's "heard").
 pub(crate) fn processed(rt: &impl Print, label: &str, attempt: Attempt) -> io::Result<()>
     requires { Reachable attempt }
 {
-    event(rt, label, attempt, Event::PacketProcessed, &[])
+    event(rt, label, attempt, Event::PacketProcessed)
 }
 
 // The handshake ended, with Version Information.
@@ -158,50 +151,19 @@ pub(crate) fn outcome(
 ) -> io::Result<()>
     requires { Reachable attempt }
 {
-    let given = Event::Outcome {
-        in_use,
-        information: Presence::Given,
-    };
-    event(rt, label, attempt, given, bytes)
+    event(rt, label, attempt, records::given(in_use, bytes))
 }
 
 // The handshake ended, and Version Information is missing.
 pub(crate) fn missing(rt: &impl Print, label: &str, attempt: Attempt, in_use: u32) -> io::Result<()>
     requires { Reachable attempt }
 {
-    let missing = Event::Outcome {
-        in_use,
-        information: Presence::Missing,
-    };
-    event(rt, label, attempt, missing, &[])
-}
-
-// The journal of an attempt.
-pub(crate) fn journal(rt: &impl Print, label: &str, attempt: Attempt) -> io::Result<()> {
-    told(rt, label, attempt.journal)
+    event(rt, label, attempt, records::missing(in_use))
 }
 
 // What a journal tells: the count of all events, and the answers in the places that are used.
 pub(crate) fn told(rt: &impl Print, label: &str, journal: Journal) -> io::Result<()> {
     let told = tell(journal);
-    let answers = told.answers;
-    let used = told.used;
-    text(rt, label)?;
-    number(rt, told.count as u64)?;
-    text(rt, " events, answers")?;
-    noted(rt, &answers, used)?;
-    text(rt, "\n")
-}
-
-// The first answers, as many as `used`, each behind a space.
-fn noted(rt: &impl Print, answers: &[u8], used: usize) -> io::Result<()> {
-    for value in answers.iter().take(used) {
-        answer(rt, *value)?;
-    }
-    Ok(())
-}
-
-fn answer(rt: &impl Print, value: u8) -> io::Result<()> {
-    text(rt, " ")?;
-    number(rt, value as u64)
+    print!(rt; "{label}{} events, answers", told.count)?;
+    spaced(rt, &told.answers, told.used)
 }

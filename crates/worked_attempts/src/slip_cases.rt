@@ -33,16 +33,9 @@ fn attempted_is_compared(rt: &impl Print) -> io::Result<()> {
 // The packet that the server sends is for the client that sent the datagram.
 fn ids_are_swapped(rt: &impl Print) -> io::Result<()> {
     let mut received = [0u8; MIN_ANSWERED_DATAGRAM];
-    received[0] = 0xc0;
-    received[4] = 12;
-    received[5] = 2;
-    received[6] = 0xaa;
-    received[7] = 0xbb;
-    received[8] = 1;
-    received[9] = 0xcc;
-    received[10] = 0xff;
+    received[..11].copy_from_slice(b"\xc0\0\0\0\x0c\x02\xaa\xbb\x01\xcc\xff");
     let mut packet = [0u8; 22];
-    write_version_negotiation(&received, &[14, 13, 10], &[], 64, &mut packet);
+    let _ = write_version_negotiation(&received, &[14, 13, 10], &[], 64, &mut packet);
     datagram(
         rt,
         "the client whose datagram it answers gets that packet: ",

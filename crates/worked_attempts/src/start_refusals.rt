@@ -9,6 +9,7 @@ pub(crate) fn all(rt: &impl Print) -> io::Result<()> {
         rt,
         "start with pair 12 to 12: ",
         &[[12, 12]],
+        &[],
         12,
         &[0xaa],
         &[0xcc],
@@ -18,15 +19,17 @@ pub(crate) fn all(rt: &impl Print) -> io::Result<()> {
         rt,
         "start with as many pairs as there may be: ",
         &most,
+        &[],
         12,
         &[],
         &[],
     )?;
     let more = [[14u32, 10]; MAX_PAIRS + 1];
-    begin(rt, "start with one pair more: ", &more, 12, &[], &[])?;
+    begin(rt, "start with one pair more: ", &more, &[], 12, &[], &[])?;
     begin(
         rt,
         "start with table 14, 12, 10, Original 13: ",
+        &[],
         &[],
         13,
         &[0xaa],
@@ -36,6 +39,7 @@ pub(crate) fn all(rt: &impl Print) -> io::Result<()> {
     begin(
         rt,
         "start with a connection ID of 21 bytes: ",
+        &[],
         &[],
         12,
         &long,

@@ -7,9 +7,8 @@ mod barred_cases; // versions barred for the flight at hand
 mod limit_cases; // tables and pairs at their limits
 mod list_cases; // "How a version is chosen": from a list
 mod list_refusals; // "When the desk says no": 40 to 42
-mod say; // words, versions and refusals, printed
 mod server_cases; // by the server
-mod show; // one choice and one line
+mod show; // what is printed, and one choice and one line
 mod word_cases; // lists as words, and the choice by a word
 
 use std::io;

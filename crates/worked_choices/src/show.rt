@@ -1,76 +1,110 @@
-// One choice, and one line with its answer.
-use crate::say::{number, refused, text, version};
-use choosing::{Choice, choose_from};
-use information::Presence;
+// What is printed, and one choice and one line with its answer.
+use choosing::choose_from;
+use refusals::{Call, Refusal, close_code};
 use server::{Decision, choose_after_first_flight};
-use sets::{Held, ListWord, choose_by_word, choose_from_word, count_held, list_word};
-use std::io;
+use sets::{choose_by_word, choose_from_word, count_held, list_word};
+use std::{fmt, io};
 
-// The choice of a server that reads 3, after a first flight for which nothing is barred.
-pub(crate) fn decision(
-    rt: &impl Print,
-    label: &str,
-    accepted: &[u32],
-    pairs: &[[u32; 2]],
-    flight: u32,
-    presence: Presence,
-    bytes: &[u8],
-) -> io::Result<()> {
-    decision_barring(rt, label, accepted, pairs, &[], flight, presence, bytes)
+// The number of a refusal, and its close code if it has one. Each program has its own: a crate for these lines is no plainer.
+#[derive(Drop)]
+struct Refused(Refusal);
+
+impl fmt::Display for Refused {
+    fn fmt<W: fmt::Write>(&self, f: &mut fmt::Formatter<W>) -> fmt::Result {
+        write!(f, "refused {}", u32::from(self.0))?;
+        match close_code(self.0, Call::Reading) {
+            Some(code) => write!(f, ", close code {code}"),
+            None => Ok(()),
+        }
+    }
 }
 
-// The same with versions that are barred for the flight.
-pub(crate) fn decision_barring(
+// What was found, behind its name, or the refusal.
+#[derive(Drop)]
+struct Found<'a, T> {
+    name: &'a str,
+    answer: Result<T, Refusal>,
+}
+
+impl<'a, T: fmt::Display> fmt::Display for Found<'a, T> {
+    fn fmt<W: fmt::Write>(&self, f: &mut fmt::Formatter<W>) -> fmt::Result {
+        match &self.answer {
+            Ok(found) => write!(f, "{} {found}", self.name),
+            Err(refusal) => write!(f, "{}", Refused(*refusal)),
+        }
+    }
+}
+
+// The choice of a server that reads 3, from what it accepts, its pairs, and what is barred for the first flight.
+pub(crate) fn decision(
     rt: &impl Print,
     label: &str,
     accepted: &[u32],
     pairs: &[[u32; 2]],
     barred: &[u32],
     flight: u32,
-    presence: Presence,
-    bytes: &[u8],
+    information: Option<&[u8]>,
 ) -> io::Result<()> {
-    text(rt, label)?;
-    match choose_after_first_flight(&[3], accepted, pairs, barred, flight, presence, bytes) {
-        Decision::Refused(refusal) => refused(rt, refusal)?,
-        Decision::Negotiate => text(rt, "negotiate")?,
-        Decision::Use(chosen) => version(rt, "use ", chosen)?,
+    match choose_after_first_flight(&[3], accepted, pairs, barred, flight, information) {
+        Ok(Decision::Negotiate) => println!(rt; "{label}negotiate"),
+        Ok(Decision::Use(chosen)) => println!(rt; "{label}use {chosen}"),
+        Err(refusal) => println!(rt; "{label}{}", Refused(refusal)),
     }
-    text(rt, "\n")
+}
+
+// The same after a first flight in 3 with Chosen 3, Available 3, 4.
+pub(crate) fn flight(
+    rt: &impl Print,
+    label: &str,
+    accepted: &[u32],
+    pairs: &[[u32; 2]],
+    barred: &[u32],
+) -> io::Result<()> {
+    decision(
+        rt,
+        label,
+        accepted,
+        pairs,
+        barred,
+        3,
+        Some(b"\0\0\0\x03\0\0\0\x03\0\0\0\x04"),
+    )
+}
+
+// A line with a choice.
+fn chosen(rt: &impl Print, label: &str, answer: Result<u32, Refusal>) -> io::Result<()> {
+    let choice = Found {
+        name: "choose",
+        answer,
+    };
+    println!(rt; "{label}{choice}")
 }
 
 // The choice from a list.
 pub(crate) fn choice(rt: &impl Print, label: &str, table: &[u32], list: &[u32]) -> io::Result<()> {
-    text(rt, label)?;
-    chosen(rt, choose_from(table, list))?;
-    text(rt, "\n")
+    chosen(rt, label, choose_from(table, list))
 }
 
 // The choice from a list by its word: the word, how many table entries the list holds, and the choice.
 pub(crate) fn by_word(rt: &impl Print, label: &str, table: &[u32], list: &[u32]) -> io::Result<()> {
-    text(rt, label)?;
-    word(rt, list_word(table, list))?;
-    text(rt, "; ")?;
-    match count_held(table, list) {
-        Held::Refused(refusal) => refused(rt, refusal)?,
-        Held::Count(count) => {
-            text(rt, "holds ")?;
-            number(rt, count as u64)?;
-        }
-    }
-    text(rt, "; ")?;
-    chosen(rt, choose_by_word(table, list))?;
-    text(rt, "\n")
+    let word = Found {
+        name: "word",
+        answer: list_word(table, list),
+    };
+    let held = Found {
+        name: "holds",
+        answer: count_held(table, list),
+    };
+    print!(rt; "{label}{word}; {held}")?;
+    chosen(rt, "; ", choose_by_word(table, list))
 }
 
 // The choice from a word.
 pub(crate) fn from_word(rt: &impl Print, label: &str, table: &[u32], word: u64) -> io::Result<()> {
-    text(rt, label)?;
-    chosen(rt, choose_from_word(table, word))?;
-    text(rt, "\n")
+    chosen(rt, label, choose_from_word(table, word))
 }
 
-// The choice from the words of two lists, joined.
+// The choice from the words of two lists, joined. A word that is refused has no bits.
 pub(crate) fn joined(
     rt: &impl Print,
     label: &str,
@@ -78,32 +112,7 @@ pub(crate) fn joined(
     a: &[u32],
     b: &[u32],
 ) -> io::Result<()> {
-    let first = bits(list_word(table, a));
-    let second = bits(list_word(table, b));
+    let first = list_word(table, a).unwrap_or(0);
+    let second = list_word(table, b).unwrap_or(0);
     from_word(rt, label, table, first | second)
-}
-
-// The bits of a word; none where it was refused.
-fn bits(answer: ListWord) -> u64 {
-    match answer {
-        ListWord::Refused(_) => 0,
-        ListWord::Word(word) => word,
-    }
-}
-
-fn word(rt: &impl Print, answer: ListWord) -> io::Result<()> {
-    match answer {
-        ListWord::Refused(refusal) => refused(rt, refusal),
-        ListWord::Word(word) => {
-            text(rt, "word ")?;
-            number(rt, word)
-        }
-    }
-}
-
-fn chosen(rt: &impl Print, answer: Choice) -> io::Result<()> {
-    match answer {
-        Choice::Refused(refusal) => refused(rt, refusal),
-        Choice::Version(chosen) => version(rt, "choose ", chosen),
-    }
 }

@@ -1,14 +1,10 @@
 // The lists that a server is configured with, tested: the safe rule, and each of its parts broken.
-use crate::say::{number, text, version};
 use both_ends::{Finding, judge_configuration};
 use information::MAX_AVAILABLE;
 use std::io;
 
 pub(crate) fn all(rt: &impl Print) -> io::Result<()> {
-    text(
-        rt,
-        "A server's lists, readable / accepted / offered / Available:\n",
-    )?;
+    println!(rt; "A server's lists, readable / accepted / offered / Available:")?;
     safe(rt)?;
     broken(rt)?;
     refused(rt)
@@ -80,18 +76,18 @@ fn finding(
     offered: &[u32],
     available: &[u32],
 ) -> io::Result<()> {
-    text(rt, label)?;
+    print!(rt; "{label}")?;
     match judge_configuration(readable, accepted, offered, available, &[[3, 4]]) {
-        Finding::Refused(refusal) => {
-            text(rt, "refused ")?;
-            number(rt, refusal.0 as u64)?;
-        }
-        Finding::Safe => text(rt, "safe")?,
-        Finding::AcceptedNotOffered(found) => version(rt, "accepted but not offered: ", found)?,
-        Finding::OfferedNotAccepted(found) => version(rt, "offered but not accepted: ", found)?,
-        Finding::OfferedNotReadable(found) => version(rt, "offered but not readable: ", found)?,
-        Finding::AvailableNotOffered(found) => version(rt, "Available but not offered: ", found)?,
-        Finding::OfferedNotAvailable(found) => version(rt, "offered but not Available: ", found)?,
+        Err(refusal) => println!(rt; "refused {}", u32::from(refusal)),
+        Ok(Finding::Safe) => println!(rt; "safe"),
+        Ok(Finding::AcceptedNotOffered(found)) => println!(rt; "accepted but not offered: {found}"),
+        Ok(Finding::OfferedNotAccepted(found)) => println!(rt; "offered but not accepted: {found}"),
+        Ok(Finding::OfferedNotReadable(found)) => println!(rt; "offered but not readable: {found}"),
+        Ok(Finding::AvailableNotOffered(found)) => println!(rt;
+            "Available but not offered: {found}"
+        ),
+        Ok(Finding::OfferedNotAvailable(found)) => println!(rt;
+            "offered but not Available: {found}"
+        ),
     }
-    text(rt, "\n")
 }

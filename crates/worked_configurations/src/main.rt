@@ -2,7 +2,6 @@
 #![tactic(auto)]
 
 mod configuration_cases; // a server's lists, tested
-mod say; // words, numbers and versions, printed
 
 use std::io;
 

@@ -1,6 +1,6 @@
 // "Version Information": what is written and read.
-use crate::show::{received, sent};
-use information::Sender;
+use crate::show::{received, wrote};
+use information::{Sender, write_information};
 use std::io;
 
 pub(crate) fn all(rt: &impl Print) -> io::Result<()> {
@@ -11,22 +11,18 @@ pub(crate) fn all(rt: &impl Print) -> io::Result<()> {
 // The buffer has two bytes more than the information. They keep their values.
 fn written(rt: &impl Print) -> io::Result<()> {
     let mut buffer = [0xeeu8; 14];
-    sent(
+    wrote(
         rt,
         "information to send as a client, Chosen 3, Available 3, 4: ",
-        Sender::Client,
-        3,
-        &[3, 4],
-        &mut buffer,
+        write_information(Sender::Client, 3, &[3, 4], &mut buffer),
+        &buffer,
     )?;
     let mut short = [0xeeu8; 6];
-    sent(
+    wrote(
         rt,
         "information to send as a server, Chosen 3, Available empty: ",
-        Sender::Server,
-        3,
-        &[],
-        &mut short,
+        write_information(Sender::Server, 3, &[], &mut short),
+        &short,
     )
 }
 

@@ -1,11 +1,11 @@
 // Document 02, C-11: variable-length integers, the borders of their widths, and 81, 83, 84.
-use crate::show::{integer_in, integer_to_write};
-use integers::MAX_INTEGER;
+use crate::show::{integer_in, wrote};
+use integers::{MAX_INTEGER, write_integer};
 use std::io;
 
 pub(crate) fn all(rt: &impl Print) -> io::Result<()> {
     read(rt)?;
-    written(rt)?;
+    shortest(rt)?;
     refused(rt)
 }
 
@@ -19,27 +19,31 @@ fn read(rt: &impl Print) -> io::Result<()> {
 }
 
 // The buffer has bytes more than the integer. They keep their values.
-fn written(rt: &impl Print) -> io::Result<()> {
-    shortest(rt, 37)?;
-    shortest(rt, 15293)?;
-    shortest(rt, 63)?;
-    shortest(rt, 64)?;
-    shortest(rt, 16383)?;
-    shortest(rt, 16384)?;
-    shortest(rt, 1073741823)?;
-    shortest(rt, 1073741824)?;
-    shortest(rt, MAX_INTEGER)
-}
-
-fn shortest(rt: &impl Print, value: u64) -> io::Result<()> {
-    let mut buffer = [0xeeu8; 9];
-    integer_to_write(rt, value, &mut buffer)
+fn shortest(rt: &impl Print) -> io::Result<()> {
+    for value in [
+        37,
+        15293,
+        63,
+        64,
+        16383,
+        16384,
+        1073741823,
+        1073741824,
+        MAX_INTEGER,
+    ] {
+        integer_to_write(rt, value, &mut [0xee; 9])?;
+    }
+    Ok(())
 }
 
 fn refused(rt: &impl Print) -> io::Result<()> {
     integer_in(rt, b"")?;
     integer_in(rt, b"\x7b")?;
-    let mut buffer = [0xeeu8; 1];
-    integer_to_write(rt, MAX_INTEGER + 1, &mut buffer)?;
-    integer_to_write(rt, 15293, &mut buffer)
+    integer_to_write(rt, MAX_INTEGER + 1, &mut [0xee])?;
+    integer_to_write(rt, 15293, &mut [0xee])
+}
+
+fn integer_to_write(rt: &impl Print, value: u64, buffer: &mut [u8]) -> io::Result<()> {
+    print!(rt; "integer {value}")?;
+    wrote(rt, " to write: ", write_integer(value, buffer), buffer)
 }

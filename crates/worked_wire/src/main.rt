@@ -11,8 +11,7 @@ mod integer_cases; // document 02, C-11: variable-length integers
 mod packet_cases; // "The packet the box sends back"
 mod parameter_cases; // document 02, C-11: transport parameters
 mod reserved_cases; // document 02, C-18: reserved numbers at the packet's end
-mod say; // words, numbers, bytes and refusals, printed
-mod show; // one call of the library and one line
+mod show; // what is printed, and one call of the library and one line
 mod slip_cases; // "Slips the old code made, or nearly": the packet
 mod wire_refusals; // "When the desk says no": 11 to 37
 

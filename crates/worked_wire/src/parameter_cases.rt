@@ -1,6 +1,7 @@
 // Document 02, C-11: a sequence of transport parameters, read and written, and 80, 81, 82, 84, 85.
-use crate::show::{carried, carrying};
+use crate::show::{carried, wrote};
 use parameters::{MAX_PARAMETERS, MAX_SEQUENCE};
+use parameters_writer::write_parameters;
 use std::io;
 
 // One more than a sequence may have, of three bytes each.
@@ -28,10 +29,7 @@ fn read(rt: &impl Print) -> io::Result<()> {
     carried(rt, "parameters in 01 01 aa: ", b"\x01\x01\xaa")?;
     carried(rt, "parameters in 40 11 00: ", b"\x40\x11\0")?;
     let mut longest = [0u8; MAX_SEQUENCE];
-    longest[0] = 1;
-    longest[1] = 0x80;
-    longest[3] = 0x3f;
-    longest[4] = 0xfb;
+    longest[..5].copy_from_slice(b"\x01\x80\0\x3f\xfb");
     carried(rt, "parameters in 16384 bytes, one of them: ", &longest)?;
     let many = distinct();
     carried(rt, "64 parameters: ", most(&many))
@@ -56,104 +54,93 @@ fn read_refused(rt: &impl Print) -> io::Result<()> {
 // The buffer has bytes more than the sequence. They keep their values.
 fn written(rt: &impl Print) -> io::Result<()> {
     let mut buffer = [0xeeu8; 12];
-    carrying(
+    wrote(
         rt,
         "01 01 aa 11 02 bb cc 40 05 40 01 dd with value ff: ",
-        b"\x01\x01\xaa\x11\x02\xbb\xcc\x40\x05\x40\x01\xdd",
-        b"\xff",
-        &mut buffer,
+        write_parameters(
+            b"\x01\x01\xaa\x11\x02\xbb\xcc\x40\x05\x40\x01\xdd",
+            b"\xff",
+            &mut buffer,
+        ),
+        &buffer,
     )?;
     let mut short = [0xeeu8; 6];
-    carrying(
+    wrote(
         rt,
         "40 05 00 with value ff: ",
-        b"\x40\x05\0",
-        b"\xff",
-        &mut short,
+        write_parameters(b"\x40\x05\0", b"\xff", &mut short),
+        &short,
     )?;
     let mut shorter = [0xeeu8; 3];
-    carrying(
+    wrote(
         rt,
         "no parameters with an empty value: ",
-        b"",
-        b"",
-        &mut shorter,
+        write_parameters(b"", b"", &mut shorter),
+        &shorter,
     )
 }
 
 fn write_refused(rt: &impl Print) -> io::Result<()> {
     let mut buffer = [0xeeu8; 4];
     let long = [0u8; MAX_SEQUENCE];
-    carrying(
+    wrote(
         rt,
         "no parameters with a value of 16384 bytes: ",
-        b"",
-        &long,
-        &mut buffer,
+        write_parameters(b"", &long, &mut buffer),
+        &buffer,
     )?;
-    carrying(
+    wrote(
         rt,
         "01 02 aa with value ff: ",
-        b"\x01\x02\xaa",
-        b"\xff",
-        &mut buffer,
+        write_parameters(b"\x01\x02\xaa", b"\xff", &mut buffer),
+        &buffer,
     )?;
-    carrying(
+    wrote(
         rt,
         "05 00 05 00 with value ff: ",
-        b"\x05\0\x05\0",
-        b"\xff",
-        &mut buffer,
+        write_parameters(b"\x05\0\x05\0", b"\xff", &mut buffer),
+        &buffer,
     )?;
-    carrying(
+    wrote(
         rt,
         "40 05 00 with value ff for a buffer of 4: ",
-        b"\x40\x05\0",
-        b"\xff",
-        &mut buffer,
+        write_parameters(b"\x40\x05\0", b"\xff", &mut buffer),
+        &buffer,
     )?;
     let many = distinct();
-    carrying(
+    wrote(
         rt,
         "65 parameters with value ff: ",
-        &many,
-        b"\xff",
-        &mut buffer,
+        write_parameters(&many, b"\xff", &mut buffer),
+        &buffer,
     )?;
-    carrying(
+    wrote(
         rt,
         "64 parameters, none ours, with value ff for a buffer of 4: ",
-        most(&many),
-        b"\xff",
-        &mut buffer,
+        write_parameters(most(&many), b"\xff", &mut buffer),
+        &buffer,
     )?;
     let mut room = [0xeeu8; MANY_BYTES];
-    carrying(
+    wrote(
         rt,
         "64 parameters, none ours, with value ff: ",
-        most(&many),
-        b"\xff",
-        &mut room,
+        write_parameters(most(&many), b"\xff", &mut room),
+        &room,
     )
 }
 
 // Parameters with the identifiers from 64 on and no value, one more than a sequence may have.
 fn distinct() -> [u8; MANY_BYTES] {
     let mut bytes = [0u8; MANY_BYTES];
-    let mut k = 0;
-    while k < MANY {
-        let at = 3 * k;
-        bytes[at] = 0x40;
-        bytes[at + 1] = (64 + k) as u8;
-        k += 1;
+    for k in 0..MANY {
+        bytes[3 * k] = 0x40;
+        // (`as`: Rust has no From between these widths; that the value fits is proved.)
+        bytes[3 * k + 1] = 64 + k as u8;
     }
     bytes
 }
 
 // As many of them as a sequence may have.
 fn most(many: &[u8]) -> &[u8] {
-    if MOST_BYTES < many.len() {
-        return &many[..MOST_BYTES];
-    }
-    many
+    many.get(..MOST_BYTES).unwrap_or(many)
 }

@@ -1,147 +1,147 @@
 // One call of a reader or of a writer, and one line with its answer.
-use crate::say::{hex, number, place, refused, text, version};
-use information::{Information, Sender, read_information, write_information};
-use integers::{Integer, read_integer, write_integer};
+use information::{Information, Sender, read_information};
+use integers::{Integer, read_integer};
 use invariants::Header;
 use invariants::reader::read_header;
 use lists::Span;
-use negotiation::write_version_negotiation;
-use parameters::Carried;
 use parameters_reader::read_parameters;
-use parameters_writer::write_parameters;
-use refusals::{Call, Written};
-use std::io;
+use refusals::{Call, Refusal, close_code};
+use std::{fmt, io};
 
-fn long_form(
-    rt: &impl Print,
-    number: u32,
-    destination: Span,
-    source: Span,
-    rest: Span,
-) -> io::Result<()> {
-    version(rt, "long form, version ", number)?;
-    place(rt, ", destination ID at ", destination)?;
-    place(rt, ", source ID at ", source)?;
-    place(rt, ", rest at ", rest)
-}
+// Bytes in hexadecimal, each behind a space.
+#[derive(Drop)]
+pub(crate) struct Hex<'a>(pub &'a [u8]);
 
-fn short_form(rt: &impl Print, destination: Span, rest: Span) -> io::Result<()> {
-    place(rt, "short form, destination ID at ", destination)?;
-    place(rt, ", rest at ", rest)
-}
-
-fn negotiation(rt: &impl Print, destination: Span, source: Span, list: Span) -> io::Result<()> {
-    place(rt, "Version Negotiation, destination ID at ", destination)?;
-    place(rt, ", source ID at ", source)?;
-    place(rt, ", list at ", list)
-}
-
-// The header of a datagram.
-pub(crate) fn header(rt: &impl Print, label: &str, datagram: &[u8], told: usize) -> io::Result<()> {
-    text(rt, label)?;
-    match read_header(datagram, told) {
-        Header::Refused(refusal) => refused(rt, refusal, Call::Reading)?,
-        Header::Long {
-            version,
-            destination,
-            source,
-            rest,
-        } => long_form(rt, version, destination, source, rest)?,
-        Header::Short { destination, rest } => short_form(rt, destination, rest)?,
-        Header::VersionNegotiation {
-            destination,
-            source,
-            list,
-        } => negotiation(rt, destination, source, list)?,
+impl<'a> fmt::Display for Hex<'a> {
+    fn fmt<W: fmt::Write>(&self, f: &mut fmt::Formatter<W>) -> fmt::Result {
+        for byte in self.0 {
+            write!(f, " {byte:02x}")?;
+        }
+        Ok(())
     }
-    text(rt, "\n")
 }
 
-// The same of a few bytes.
-pub(crate) fn header_of(rt: &impl Print, datagram: &[u8], told: usize) -> io::Result<()> {
-    text(rt, "header of")?;
-    hex(rt, datagram)?;
-    text(rt, ", told length ")?;
-    number(rt, told as u64)?;
-    header(rt, ": ", datagram, told)
+// Where a part lies: from a place up to, and not with, another.
+#[derive(Drop)]
+struct At(Span);
+
+impl fmt::Display for At {
+    fn fmt<W: fmt::Write>(&self, f: &mut fmt::Formatter<W>) -> fmt::Result {
+        let part = self.0;
+        write!(f, "{}..{}", part.start, part.end)
+    }
 }
 
-// What a writer answered.
-fn written(rt: &impl Print, answer: Written) -> io::Result<()> {
-    match answer {
-        Written::Refused(refusal) => refused(rt, refusal, Call::Writing),
-        Written::Count(count) => {
-            number(rt, count as u64)?;
-            text(rt, " bytes")
+// The number of a refusal, and its close code if it has one. Each program has its own: a crate for these lines is no plainer.
+#[derive(Drop)]
+struct Refused(Refusal, Call);
+
+impl fmt::Display for Refused {
+    fn fmt<W: fmt::Write>(&self, f: &mut fmt::Formatter<W>) -> fmt::Result {
+        write!(f, "refused {}", u32::from(self.0))?;
+        match close_code(self.0, self.1) {
+            Some(code) => write!(f, ", close code {code}"),
+            None => Ok(()),
         }
     }
 }
 
-// What a writer answered, and all of its buffer after the call.
-fn written_in(rt: &impl Print, answer: Written, buffer: &[u8]) -> io::Result<()> {
-    written(rt, answer)?;
-    text(rt, ", buffer")?;
-    hex(rt, buffer)?;
-    text(rt, "\n")
+// What a header says.
+#[derive(Drop)]
+struct Form(Header);
+
+impl fmt::Display for Form {
+    fn fmt<W: fmt::Write>(&self, f: &mut fmt::Formatter<W>) -> fmt::Result {
+        match self.0 {
+            Header::Long {
+                version,
+                destination,
+                source,
+                rest,
+            } => write!(
+                f,
+                "long form, version {version}, destination ID at {}, source ID at {}, rest at {}",
+                At(destination),
+                At(source),
+                At(rest)
+            ),
+            Header::Short { destination, rest } => write!(
+                f,
+                "short form, destination ID at {}, rest at {}",
+                At(destination),
+                At(rest)
+            ),
+            Header::VersionNegotiation {
+                destination,
+                source,
+                list,
+            } => write!(
+                f,
+                "Version Negotiation, destination ID at {}, source ID at {}, list at {}",
+                At(destination),
+                At(source),
+                At(list)
+            ),
+        }
+    }
 }
 
-// The Version Negotiation packet that answers a datagram.
-pub(crate) fn packet(
-    rt: &impl Print,
-    label: &str,
-    datagram: &[u8],
-    offered: &[u32],
-    unused_bits: u8,
-    buffer: &mut [u8],
-) -> io::Result<()> {
-    text(rt, label)?;
-    let answer = write_version_negotiation(datagram, offered, &[], unused_bits, buffer);
-    written_in(rt, answer, buffer)
+// What Version Information says.
+#[derive(Drop)]
+struct Versions(Information);
+
+impl fmt::Display for Versions {
+    fn fmt<W: fmt::Write>(&self, f: &mut fmt::Formatter<W>) -> fmt::Result {
+        let Information { chosen, available } = self.0;
+        write!(f, "Chosen {chosen}, Available at {}", At(available))
+    }
 }
 
-// The same with reserved numbers at its end, and unused bits 64.
-pub(crate) fn packet_with(
-    rt: &impl Print,
-    label: &str,
-    datagram: &[u8],
-    offered: &[u32],
-    reserved: &[u32],
-    buffer: &mut [u8],
-) -> io::Result<()> {
-    text(rt, label)?;
-    let answer = write_version_negotiation(datagram, offered, reserved, 64, buffer);
-    written_in(rt, answer, buffer)
+// A variable-length integer, and its width.
+#[derive(Drop)]
+struct Number(Integer);
+
+impl fmt::Display for Number {
+    fn fmt<W: fmt::Write>(&self, f: &mut fmt::Formatter<W>) -> fmt::Result {
+        let Integer { value, width } = self.0;
+        write!(f, "{value}, width {width}")
+    }
 }
 
-// The same with the count alone.
-pub(crate) fn packet_count(
-    rt: &impl Print,
-    label: &str,
-    datagram: &[u8],
-    offered: &[u32],
-    reserved: &[u32],
-    buffer: &mut [u8],
-) -> io::Result<()> {
-    text(rt, label)?;
-    written(
-        rt,
-        write_version_negotiation(datagram, offered, reserved, 127, buffer),
-    )?;
-    text(rt, "\n")
+// Where Version Information lies in a sequence of transport parameters.
+#[derive(Drop)]
+struct Place(Option<Span>);
+
+impl fmt::Display for Place {
+    fn fmt<W: fmt::Write>(&self, f: &mut fmt::Formatter<W>) -> fmt::Result {
+        match self.0 {
+            Some(part) => write!(f, "Version Information at {}", At(part)),
+            None => write!(f, "Version Information missing"),
+        }
+    }
 }
 
-// Version Information to send.
-pub(crate) fn sent(
+// A line with what a reader answered.
+fn read<T: fmt::Display + Drop>(
     rt: &impl Print,
     label: &str,
-    sender: Sender,
-    chosen: u32,
-    available: &[u32],
-    buffer: &mut [u8],
+    answer: Result<T, Refusal>,
 ) -> io::Result<()> {
-    text(rt, label)?;
-    let answer = write_information(sender, chosen, available, buffer);
-    written_in(rt, answer, buffer)
+    match answer {
+        Ok(found) => println!(rt; "{label}{found}"),
+        Err(refusal) => println!(rt; "{label}{}", Refused(refusal, Call::Reading)),
+    }
+}
+
+// The header of a datagram.
+pub(crate) fn header(rt: &impl Print, label: &str, datagram: &[u8], told: usize) -> io::Result<()> {
+    read(rt, label, read_header(datagram, told).map(Form))
+}
+
+// The same of a few bytes.
+pub(crate) fn header_of(rt: &impl Print, datagram: &[u8], told: usize) -> io::Result<()> {
+    print!(rt; "header of{}, told length {told}", Hex(datagram))?;
+    header(rt, ": ", datagram, told)
 }
 
 // Version Information that came.
@@ -151,65 +151,39 @@ pub(crate) fn received(
     sender: Sender,
     bytes: &[u8],
 ) -> io::Result<()> {
-    text(rt, label)?;
-    match read_information(sender, bytes) {
-        Information::Refused(refusal) => refused(rt, refusal, Call::Reading)?,
-        Information::Read { chosen, available } => {
-            version(rt, "Chosen ", chosen)?;
-            place(rt, ", Available at ", available)?;
-        }
-    }
-    text(rt, "\n")
+    read(rt, label, read_information(sender, bytes).map(Versions))
 }
 
 // An integer at the front of bytes.
 pub(crate) fn integer_in(rt: &impl Print, bytes: &[u8]) -> io::Result<()> {
-    text(rt, "integer in")?;
-    hex(rt, bytes)?;
-    match read_integer(bytes) {
-        Integer::Refused(refusal) => {
-            text(rt, ": ")?;
-            refused(rt, refusal, Call::Reading)?;
-        }
-        Integer::Read { value, width } => {
-            text(rt, ": ")?;
-            number(rt, value)?;
-            text(rt, ", width ")?;
-            number(rt, width as u64)?;
-        }
-    }
-    text(rt, "\n")
-}
-
-// An integer to write.
-pub(crate) fn integer_to_write(rt: &impl Print, value: u64, buffer: &mut [u8]) -> io::Result<()> {
-    text(rt, "integer ")?;
-    number(rt, value)?;
-    text(rt, " to write: ")?;
-    let answer = write_integer(value, buffer);
-    written_in(rt, answer, buffer)
+    print!(rt; "integer in{}", Hex(bytes))?;
+    read(rt, ": ", read_integer(bytes).map(Number))
 }
 
 // Where Version Information lies in a sequence of transport parameters.
 pub(crate) fn carried(rt: &impl Print, label: &str, sequence: &[u8]) -> io::Result<()> {
-    text(rt, label)?;
-    match read_parameters(sequence) {
-        Carried::Refused(refusal) => refused(rt, refusal, Call::Reading)?,
-        Carried::Missing => text(rt, "Version Information missing")?,
-        Carried::At(part) => place(rt, "Version Information at ", part)?,
-    }
-    text(rt, "\n")
+    read(rt, label, read_parameters(sequence).map(Place))
 }
 
-// A sequence with Version Information of this value.
-pub(crate) fn carrying(
+// What a writer answered.
+#[derive(Drop)]
+pub(crate) struct Written(pub Result<usize, Refusal>);
+
+impl fmt::Display for Written {
+    fn fmt<W: fmt::Write>(&self, f: &mut fmt::Formatter<W>) -> fmt::Result {
+        match self.0 {
+            Ok(count) => write!(f, "{count} bytes"),
+            Err(refusal) => write!(f, "{}", Refused(refusal, Call::Writing)),
+        }
+    }
+}
+
+// A line with what a writer answered, and all of its buffer after the call.
+pub(crate) fn wrote(
     rt: &impl Print,
     label: &str,
-    old: &[u8],
-    value: &[u8],
-    buffer: &mut [u8],
+    answer: Result<usize, Refusal>,
+    buffer: &[u8],
 ) -> io::Result<()> {
-    text(rt, label)?;
-    let answer = write_parameters(old, value, buffer);
-    written_in(rt, answer, buffer)
+    println!(rt; "{label}{}, buffer{}", Written(answer), Hex(buffer))
 }

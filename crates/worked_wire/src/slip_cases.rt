@@ -8,6 +8,6 @@ use std::io;
 pub(crate) fn all(rt: &impl Print) -> io::Result<()> {
     let received = padded_case();
     let mut packet = [0u8; 22];
-    write_version_negotiation(&received, &[14, 13, 10], &[], 64, &mut packet);
+    let _ = write_version_negotiation(&received, &[14, 13, 10], &[], 64, &mut packet);
     header_of(rt, &packet, 0)
 }

@@ -1,8 +1,8 @@
 // "When the desk says no", 11 to 37, with document 02's 20: the header reader, the packet writer, Version Information.
 use crate::packet_cases::padded_case;
-use crate::show::{header, packet, received, sent};
-use information::Sender;
-use negotiation::MIN_ANSWERED_DATAGRAM;
+use crate::show::{header, received, wrote};
+use information::{Sender, write_information};
+use negotiation::{MIN_ANSWERED_DATAGRAM, write_version_negotiation};
 use std::io;
 
 pub(crate) fn all(rt: &impl Print) -> io::Result<()> {
@@ -29,25 +29,26 @@ fn of_datagrams(rt: &impl Print) -> io::Result<()> {
 fn of_the_packet_to_answer(rt: &impl Print) -> io::Result<()> {
     let mut buffer = [0xeeu8; 4];
     let small = [0x40u8; MIN_ANSWERED_DATAGRAM - 1];
-    packet(rt, "packet for 1199 bytes: ", &small, &[14], 0, &mut buffer)?;
+    wrote(
+        rt,
+        "packet for 1199 bytes: ",
+        write_version_negotiation(&small, &[14], &[], 0, &mut buffer),
+        &buffer,
+    )?;
     let short = [0x40u8; MIN_ANSWERED_DATAGRAM];
-    packet(
+    wrote(
         rt,
         "packet for a short form of 1200 bytes: ",
-        &short,
-        &[14],
-        0,
-        &mut buffer,
+        write_version_negotiation(&short, &[14], &[], 0, &mut buffer),
+        &buffer,
     )?;
     let mut negotiation = [0u8; MIN_ANSWERED_DATAGRAM];
     negotiation[0] = 0x80;
-    packet(
+    wrote(
         rt,
         "packet for Version Negotiation of 1200 bytes: ",
-        &negotiation,
-        &[14],
-        0,
-        &mut buffer,
+        write_version_negotiation(&negotiation, &[14], &[], 0, &mut buffer),
+        &buffer,
     )
 }
 
@@ -55,38 +56,30 @@ fn of_the_packet_to_answer(rt: &impl Print) -> io::Result<()> {
 fn of_the_packet_to_send(rt: &impl Print) -> io::Result<()> {
     let datagram = padded_case();
     let mut buffer = [0xeeu8; 4];
-    packet(
+    wrote(
         rt,
         "packet that offers 14, 14: ",
-        &datagram,
-        &[14, 14],
-        0,
-        &mut buffer,
+        write_version_negotiation(&datagram, &[14, 14], &[], 0, &mut buffer),
+        &buffer,
     )?;
-    packet(
+    wrote(
         rt,
         "packet for version 12 that offers 14, 12: ",
-        &datagram,
-        &[14, 12],
-        0,
-        &mut buffer,
+        write_version_negotiation(&datagram, &[14, 12], &[], 0, &mut buffer),
+        &buffer,
     )?;
-    packet(
+    wrote(
         rt,
         "packet with unused bits 128: ",
-        &datagram,
-        &[14, 13, 10],
-        128,
-        &mut buffer,
+        write_version_negotiation(&datagram, &[14, 13, 10], &[], 128, &mut buffer),
+        &buffer,
     )?;
     let mut short = [0xeeu8; 21];
-    packet(
+    wrote(
         rt,
         "packet of 22 bytes for a buffer of 21: ",
-        &datagram,
-        &[14, 13, 10],
-        64,
-        &mut short,
+        write_version_negotiation(&datagram, &[14, 13, 10], &[], 64, &mut short),
+        &short,
     )
 }
 
@@ -100,13 +93,11 @@ fn of_the_length(rt: &impl Print) -> io::Result<()> {
     )?;
     let available = [3u32; 256];
     let mut buffer = [0xeeu8; 4];
-    sent(
+    wrote(
         rt,
         "information to send with 256 entries: ",
-        Sender::Server,
-        3,
-        &available,
-        &mut buffer,
+        write_information(Sender::Server, 3, &available, &mut buffer),
+        &buffer,
     )
 }
 
@@ -133,12 +124,10 @@ fn of_what_was_read(rt: &impl Print) -> io::Result<()> {
 
 fn of_the_room(rt: &impl Print) -> io::Result<()> {
     let mut buffer = [0xeeu8; 11];
-    sent(
+    wrote(
         rt,
         "information to send of 12 bytes for a buffer of 11: ",
-        Sender::Client,
-        3,
-        &[3, 4],
-        &mut buffer,
+        write_information(Sender::Client, 3, &[3, 4], &mut buffer),
+        &buffer,
     )
 }

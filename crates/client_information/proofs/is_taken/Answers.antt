@@ -1,17 +1,17 @@
--- `is_taken` meets its contract. The loop's invariant: the rest of the others answers for the whole.
+-- `is_taken` meets its contract: whether any other has the number or the place.
+use borrow.Author.Rules.{rules}
+use borrow.Author.Tests.{tests}
+use mathlib.Core.Bool.{◌||◌}
 use mathlib.Core.Path.{sym, ◌∙◌}
-use native.Mathlib.Omega.{arith}
-use Rattle.client_information.proofs.Given.{taken-number, taken-place, taken_next, taken-end}
+use lib.Dec.{eqb}
+use Rattle.std.proofs.lemmas.Iterator.{YieldsList-from_slice}
+use Rattle.std.proofs.lemmas.Iterator.Search.{any_from_yields_List}
+use Rattle.attempt.specs.AsSent.{number_in, place_in}
+use Rattle.client_information.proofs.Given.{taken_any}
 use Rattle.client_information.proofs.is_taken.Goals as goal
 
-pub returns-then-other-one : goal.returns-then-other-one
-returns-then-other-one c = sym (c.loop-i.invariant.1 ∙ taken-number _ _ _ c.loop-i-test.true c.if-other-one.true)
-
-pub returns-then-other-one-2 : goal.returns-then-other-one-2
-returns-then-other-one-2 c = sym (c.loop-i.invariant.1 ∙ taken-place _ _ _ c.loop-i-test.true c.if-other-one.false c.if-other-one-2.true)
-
-pub loop-i-preserved : goal.loop-i-preserved
-loop-i-preserved c = (omega arith, c.loop-i.invariant.1 ∙ taken_next _ _ _ c.loop-i-test.true c.if-other-one.false c.if-other-one-2.false)
-
 pub returns : goal.returns
-returns c = sym (c.loop-i.invariant.1 ∙ taken-end _ _ _ c.loop-i-test.false)
+returns c = let one = c.args.one in
+    any_from_yields_List (λ other. eqb (number_in other) (number_in one) || eqb (place_in other) (place_in one)) _ _ _
+    c.any.ensures.ran (YieldsList-from_slice c.args.others.now cc) (λ x b q k. search (rules, tests)) ∙
+    sym (taken_any one c.args.others.now)

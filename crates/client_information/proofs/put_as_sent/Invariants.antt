@@ -1,11 +1,6 @@
 -- `put_as_sent` meets its contract. The loop's invariant: what was put, and the list from the place on, make up the whole.
-use Prim.Native.Nat.{◌-◌, ◌≤◌}
-use Rattle.attempt.specs.AsSent.{sent_count}
 use Rattle.client_information.proofs.Sending.{Sending}
 use Rattle.client_information.proofs.put_as_sent.Given as goal
 
 abbrev pub invariant-loop-place : goal.invariant-loop-place
-invariant-loop-place l = (l.place ≤ sent_count l.own l.reserved) × Sending l.own l.reserved l.initial.buffer l.buffer l.next l.place
-
-abbrev pub decreases-loop-place : goal.decreases-loop-place
-decreases-loop-place l = l.entries - l.place
+invariant-loop-place l = Sending l.own l.reserved l.initial.buffer l.buffer l.next l.place

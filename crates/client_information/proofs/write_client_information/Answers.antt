@@ -2,8 +2,9 @@
 use Prim.Native.Nat.{◌≤◌}
 use mathlib.Core.Path.{◌≡◌, refl, sym}
 use native.Mathlib.Omega.{arith}
+use borrow.Author.Rules.{rules}
 use lib.ListN.{length, take, drop, replicate, length-append}
-use lib.Seq.{take_at, length-take-le}
+use lib.Seq.{take_at}
 use Rattle.versions.specs.Limits.{max_table}
 use Rattle.attempt.specs.Attempt.{padded, own_of}
 use Rattle.client_information.proofs.write_client_information.Goals.{After-own_list-own}
@@ -23,11 +24,10 @@ handed c =
     let own = own_of c.args.attempt in
     rw c.own_list-own.ensures (take_at own (drop (length own) (replicate max_table 0)) (length own) refl)
 
-pub slice_bounds-versions-end : goal.slice_bounds-versions-end
-slice_bounds-versions-end c = within (goal.at.slice_bounds-versions-end c).After-own_list-own
-
-pub slice_bounds-write_as_sent-end : goal.slice_bounds-write_as_sent-end
-slice_bounds-write_as_sent-end c = sym (length-take-le _ _ (within (goal.at.slice_bounds-write_as_sent-end c).After-own_list-own))
+pub shared_ref_as_front-write_as_sent : goal.shared_ref_as_front-write_as_sent
+shared_ref_as_front-write_as_sent c =
+    let wide : length c.own_list-own.result.versions ≡ max_table = search rules in
+    omega (arith, wide, within (goal.at.shared_ref_as_front-write_as_sent c).After-own_list-own)
 
 pub returns : goal.returns
 returns c = rw (sym (handed (goal.at.returns c).After-own_list-own)) c.write_as_sent.ensures

@@ -1,17 +1,21 @@
 -- `open`: each array of the record is its list in places.
+use borrow.Author.Rules.{rules}
 use Rattle.versions.proofs.Lists.{table-counts}
+use Rattle.attempt.specs.Attempt.{padded}
 use Rattle.attempt.specs.Start.{opened}
+use Rattle.client_start.specs.Inputs.{given}
+use Rattle.client_start.proofs.Accepted.{passed}
 use Rattle.client_start.proofs.open.Goals as goal
 
-pub padded_table-places-requires : goal.padded_table-places-requires
-padded_table-places-requires c = (table-counts c.args.table.now c.requires.0).1
+pub padded-places-requires : goal.padded-places-requires
+padded-places-requires c = (search rules, (table-counts c.args.input.table.versions.now c.args.input.table.rule).1)
 
 pub returns : goal.returns
-unfolding opened
+unfolding opened padded
 returns c = rw (
-  c.padded_table-places.ensures,
+  c.padded-places.ensures,
   c.rows_for-rows.ensures,
-  c.padded_id-destination_places.ensures,
-  c.padded_id-source_places.ensures,
-  c.empty-journal.ensures,
+  c.padded-destination_places.ensures,
+  c.padded-source_places.ensures,
+  c.empty.ensures,
 )

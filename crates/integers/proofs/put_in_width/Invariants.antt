@@ -13,6 +13,3 @@ written b w v i = take i b ++ (low_bytes (w - i) v ++ drop w b)
 abbrev pub invariant-loop-i : goal.invariant-loop-i
 invariant-loop-i l = (1 ≤ l.i) × (l.i ≤ l.width) × (length l.buffer ≡ length l.initial.buffer) × (l.buffer ≡ written l.initial.buffer l.width l.value l.i)
     × (l.rest ≡ l.value / 256 ^ (l.width - l.i))
-
-abbrev pub decreases-loop-i : goal.decreases-loop-i
-decreases-loop-i l = l.i

@@ -1,6 +1,5 @@
 -- `is_entry`: entry and version are compared turned.
 use native.Mathlib.Omega.{arith}
-use borrow.Author.Rules.{rules}
 use lib.ListN.{get_or}
 use Rattle.lists.specs.Wire.{entries}
 use Rattle.lists.proofs.Turning.{turned-eqb}

@@ -1,5 +1,4 @@
 -- `close_code` meets its contract: what was read has the code of its row, a writer none.
-use borrow.Author.Rules.{rules}
 use Rattle.refusals.specs.Close.{close_of}
 use Rattle.refusals.proofs.close_code.Goals as goal
 

@@ -1,22 +1,15 @@
--- `choose_by_word` meets its contract: what the word is refused with, or the choice by the word.
-use mathlib.Core.Path.{◌≡◌, ◌∙◌}
-use Rattle.refusals.specs.Reply.{Reply.answered}
-use Rattle.sets.specs.Sets.{list_word}
-use Rattle.sets.proofs.Lowest.{word-refused, table_kept, chosen-by-word}
-use Rattle.sets.proofs.choose_by_word.Goals.{In-Word}
+-- What the table or the list is refused with, or the choice by the word.
+use Rattle.choosing.specs.Choice.{choose}
+use mathlib.Core.Path.{sym, ap, ◌∙◌}
+use Rattle.sets.specs.Judging.{table_reply}
+use Rattle.sets.proofs.Lowest.{handed-back, judge-refused, chosen-by-word}
 use Rattle.sets.proofs.choose_by_word.Goals as goal
 
--- The word is answered
-answered-word : (c : In-Word) →
-    let g = c.args in
-    answered c.in-Word.bits ≡ list_word g.table.now g.list.now
-answered-word c = c.in-Word.ensures
+pub returns-in_err-table : goal.returns-in_err-table
+unfolding choose
+returns-in_err-table g c =
+    handed-back c.from_residual.result c.in_err-table.field-0.0 c.from_residual.ensures.1 ∙
+    judge-refused _ _ _ _ (sym (ap table_reply c.in_err-table.was) ∙ c.judge.ensures)
 
-pub at_lowest-requires : goal.at_lowest-requires
-at_lowest-requires c = table_kept _ _ _ (answered-word (goal.at.at_lowest-requires c).In-Word)
-
-pub returns-in-Refused : goal.returns-in-Refused
-returns-in-Refused c = word-refused _ _ _ c.in-Refused.ensures
-
-pub returns-in-Word : goal.returns-in-Word
-returns-in-Word c = c.at_lowest.ensures ∙ chosen-by-word _ _ _ (answered-word (goal.at.returns-in-Word c).In-Word)
+pub returns : goal.returns
+returns g c = c.at_lowest.ensures ∙ rw c.word_in.ensures (chosen-by-word _ _ _ (sym (ap table_reply c.in_ok-table.was) ∙ c.judge.ensures))

@@ -1,19 +1,17 @@
--- `count_held` meets its contract: what the word is refused with, or how many of its bits are set.
-use mathlib.Core.Path.{◌≡◌, ap, ◌∙◌}
+-- What the table or the list is refused with, or how many bits of the word are set.
+use Rattle.sets.specs.Sets.{count_held}
+use mathlib.Core.Path.{sym, ap, ◌∙◌}
+use lib.Count.{ones}
 use Rattle.refusals.specs.Reply.{Reply.answered}
-use Rattle.sets.specs.Sets.{list_word}
-use Rattle.sets.proofs.Lowest.{count-refused, counted-by-word}
-use Rattle.sets.proofs.count_held.Goals.{In-Word}
+use Rattle.sets.specs.Judging.{table_reply}
+use Rattle.sets.proofs.Lowest.{handed-back, judge-refused, counted-by-word}
 use Rattle.sets.proofs.count_held.Goals as goal
 
--- The word is answered
-answered-word : (c : In-Word) →
-    let g = c.args in
-    answered c.in-Word.bits ≡ list_word g.table.now g.list.now
-answered-word c = c.in-Word.ensures
+pub returns-in_err-table : goal.returns-in_err-table
+unfolding count_held
+returns-in_err-table g c =
+    handed-back c.from_residual.result c.in_err-table.field-0.0 c.from_residual.ensures.1 ∙
+    judge-refused _ _ _ _ (sym (ap table_reply c.in_err-table.was) ∙ c.judge.ensures)
 
-pub returns-in-Refused : goal.returns-in-Refused
-returns-in-Refused c = count-refused _ _ _ c.in-Refused.ensures
-
-pub returns-in-Word : goal.returns-in-Word
-returns-in-Word c = ap answered c.ones_of.ensures ∙ counted-by-word _ _ _ (answered-word (goal.at.returns-in-Word c).In-Word)
+pub returns : goal.returns
+returns g c = ap answered (ap ones c.word_in.ensures) ∙ counted-by-word _ _ _ (sym (ap table_reply c.in_ok-table.was) ∙ c.judge.ensures)

@@ -1,11 +1,10 @@
 -- `put_members`: at each turn, the entries so far stand over what was found, and the rest of the word adds what is
 -- missing.
-use Prim.Native.Nat.{ℕ, ◌-◌, ◌<◌, ◌≤◌}
+use Prim.Native.Nat.{ℕ, ◌<◌, ◌≤◌}
 use mathlib.Core.List.{List}
 use mathlib.Core.Path.{◌≡◌}
 use native.Mathlib.Nat.{le_trans, lt_of_lt_of_le}
 use native.Mathlib.Omega.{arith}
-use lib.Bits.{and_le_r}
 use lib.Count.{count_trailing_zeros, trailing_of_zero}
 use lib.ListN.{length, take, length-take}
 use lib.Seq.{get_or-take}
@@ -18,7 +17,7 @@ use Rattle.attempt.proofs.own.put_members.Goals as goal
 
 pub loop-rest-init : goal.loop-rest-init
 loop-rest-init c = let g = c.args in
-    let cut = c.cut-count.ensures in
+    let cut = c.min-count.ensures in
     let named = c.room_of.ensures.named in
     let all = length-take max_table g.table.now in
     (omega arith, collected-none g.word (take max_table g.table.now) g.places.now)
@@ -58,20 +57,11 @@ found_within c =
     room g.word (take max_table c.args.table.now) g.places.now l.places l.found l.rest word_bits l.invariant.1 (bit-within c) (lowest-within c) (fits c) in
     omega (arith, free, room_of.named, room_of.counted)
 
-pub bounds-table-lowest : goal.bounds-table-lowest
-bounds-table-lowest c = let all = length-take max_table c.args.table.now in
-    omega (arith, lowest-within (goal.at.bounds-table-lowest c).Else-count-lowest, all)
-
 pub offset_bounds-places-found : goal.offset_bounds-places-found
 offset_bounds-places-found c = omega (arith, found_within (goal.at.offset_bounds-places-found c).Else-count-lowest)
 
 pub bounds-places-found : goal.bounds-places-found
 bounds-places-found c = found_within (goal.at.bounds-places-found c).Else-count-lowest
-
-pub loop-rest-smaller : goal.loop-rest-smaller
-loop-rest-smaller c = let rest = c.loop-rest.rest in
-    let l = and_le_r rest (rest - 1) in
-    omega (arith, l, c.loop-rest-test.true)
 
 pub loop-rest-preserved : goal.loop-rest-preserved
 loop-rest-preserved c = let g = c.args in

@@ -3,7 +3,8 @@ use Rattle.c_record.proofs.events.step_record.Goals as goal
 
 pub returns : goal.returns
 returns c = rw (
-  c.number_of-refusal.ensures,
+  c.from-refusal.ensures,
+  c.number_of.ensures,
   c.value_after-number.ensures,
   c.mark_after-mark.ensures,
   c.heard_after-heard.ensures,

@@ -14,15 +14,11 @@ use Rattle.client_start.proofs.Rows.{word_none, length-rows, row_at}
 use Rattle.client_start.proofs.words.own_rows.Goals as goal
 
 pub loop-i-init : goal.loop-i-init
-loop-i-init c = (omega arith, padded-none max_table)
-
-pub bounds-rows-i : goal.bounds-rows-i
-bounds-rows-i c = let few = (table-counts c.args.table.now c.requires).1 in
-    omega arith
+loop-i-init c = padded-none max_table
 
 pub loop-i-preserved : goal.loop-i-preserved
-loop-i-preserved c = let table = c.args.table.now in
-    let kept = c.requires in
+loop-i-preserved c = let table = c.args.table.versions.now in
+    let kept = c.args.table.rule in
     let few = (table-counts table kept).1 in
     let rows = rows_for table table [] [] in
     let i = c.loop-i.i in
@@ -31,13 +27,15 @@ loop-i-preserved c = let table = c.args.table.now in
     c.mark.ensures ∙
     ap (λ (ts : List ℕ). marked ts (get_or table i 0) 0) (word-of-all table kept) ∙
     word_none table (table-entries table kept) (get_or table i 0) ∙
-    sym (row_at table table [] [] i (omega arith)) in (
-      omega arith,
-      rw (c.loop-i.invariant.1, word) (push-next max_table rows i (omega arith) (omega arith)),
-    )
+    sym (row_at table table [] [] i (omega arith)) in
+    rw (c.loop-i.invariant, word) (push-next max_table rows i (omega arith) (omega arith))
+
+pub bounds-rows-i : goal.bounds-rows-i
+bounds-rows-i c = let few = (table-counts c.args.table.versions.now c.args.table.rule).1 in
+    omega arith
 
 pub returns : goal.returns
-returns c = let table = c.args.table.now in
+returns c = let table = c.args.table.versions.now in
     let rows = rows_for table table [] [] in
     let all : length rows ≡ length table = length-rows table table [] [] in
-    c.loop-i.invariant.1 ∙ padded-all max_table rows c.loop-i.i (omega arith)
+    c.loop-i.invariant ∙ padded-all max_table rows c.loop-i.i (omega arith)

@@ -1,16 +1,16 @@
 -- `few_repeat`: no number before a place occurs twice, or the answer is there.
 use Prim.Native.Nat.{ℕ, ◌+◌, ◌<◌}
 use mathlib.Core.Bool.{Bool, true, false, ◌||◌}
-use mathlib.Core.List.{List}
+use mathlib.Core.List.{List, [], ◌∷◌}
 use mathlib.Core.Path.{◌≡◌, refl, sym, ap, ◌∙◌}
 use native.Mathlib.Numerals.{add-one}
-use native.Mathlib.Omega.{arith}
 use lib.ListN.{length, drop, get_or, take, take-append-drop}
-use lib.Seq.{length-take-le, take_all, take-suc}
+use lib.Seq.{take-suc}
+use lib.Dec.{eqb}
+use Rattle.std.specs.List.{list_any}
 use Rattle.versions.specs.Table.{elem}
 use Rattle.parameters.specs.Sequence.{repeats}
 use Rattle.parameters_reader.proofs.Twice.{repeats-front, repeats-snoc}
-use Rattle.parameters_reader.proofs.identifiers.few_repeat.Goals.{After-among}
 use Rattle.parameters_reader.proofs.identifiers.few_repeat.Goals as goal
 
 -- One more number
@@ -26,23 +26,24 @@ in_whole ids i h = ap repeats (sym (take-append-drop i ids)) ∙ repeats-front (
 
 pub loop-i-init : goal.loop-i-init
 unfolding repeats
-loop-i-init c = (omega arith, refl)
+loop-i-init c = refl
 
-pub slice_bounds-among-end : goal.slice_bounds-among-end
-slice_bounds-among-end c = sym (length-take-le c.loop-i.i _ c.loop-i.invariant.0)
+-- `contains` asks for the same number
+any-elem : (x : ℕ) (xs : List ℕ) → list_any (λ y. eqb y x) xs ≡ elem x xs
+unfolding elem
+any-elem x [] = refl
+any-elem x (y ∷ ys) = ap (λ (b : Bool). eqb y x || b) (any-elem x ys)
 
--- The answer of the search, at the next place
-next : (c : After-among)
-    → repeats (take (c.loop-i.i + 1) c.args.ids.now)
-    ≡ c.among.result
-next c =
-    next-number _ c.loop-i.i _ c.loop-i-test.true c.loop-i.invariant.1 c.among.ensures
-
-pub returns-then-among : goal.returns-then-among
-returns-then-among c = sym (in_whole _ (c.loop-i.i + 1) (next (goal.at.returns-then-among c).After-among ∙ c.if-among.true))
+pub returns-then-contains : goal.returns-then-contains
+returns-then-contains c =
+    let i = c.loop-i.i in
+    let ids = c.args.ids.now in
+    let e : c.contains.result ≡ elem (get_or ids i 0) (take i ids) = c.contains.ensures.value ∙ any-elem (get_or ids i 0) (take i ids) in
+    sym (in_whole ids (i + 1) (next-number ids i c.contains.result c.loop-i-test.true c.loop-i.invariant e ∙ c.if-contains.true))
 
 pub loop-i-preserved : goal.loop-i-preserved
-loop-i-preserved c = (omega arith, next (goal.at.loop-i-preserved c).After-among ∙ c.if-among.false)
-
-pub returns : goal.returns
-returns c = sym (ap repeats (sym (take_all c.loop-i.i _ c.loop-i-test.false)) ∙ c.loop-i.invariant.1)
+loop-i-preserved c =
+    let i = c.loop-i.i in
+    let ids = c.args.ids.now in
+    let e : c.contains.result ≡ elem (get_or ids i 0) (take i ids) = c.contains.ensures.value ∙ any-elem (get_or ids i 0) (take i ids) in
+    next-number ids i c.contains.result c.loop-i-test.true c.loop-i.invariant e ∙ c.if-contains.false

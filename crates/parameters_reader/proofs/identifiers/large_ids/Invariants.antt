@@ -1,11 +1,7 @@
--- `large_ids`: each large identifier is put behind those before it.
-use Prim.Native.Nat.{◌-◌}
-use lib.ListN.{length}
+-- `large_ids`: each large identifier that is passed is put behind those before it.
+use Rattle.parameters.specs.Items.{items_left}
 use Rattle.parameters_reader.proofs.Marks.{Gathering}
 use Rattle.parameters_reader.proofs.identifiers.large_ids.Given as goal
 
-abbrev pub invariant-loop-at : goal.invariant-loop-at
-invariant-loop-at l = Gathering l.sequence l.numbers l.at l.count
-
-abbrev pub decreases-loop-at : goal.decreases-loop-at
-decreases-loop-at l = length l.sequence - l.at
+abbrev pub invariant-loop-id : goal.invariant-loop-id
+invariant-loop-id l = Gathering (items_left l.fn.parameters.sequence.now l.fn.parameters.at) (items_left l.id-iterator.sequence.now l.id-iterator.at) l.numbers l.count

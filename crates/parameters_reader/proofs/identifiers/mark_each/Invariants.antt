@@ -1,11 +1,7 @@
--- `mark_each`: each small identifier is marked.
-use Prim.Native.Nat.{◌-◌}
-use lib.ListN.{length}
+-- `mark_each`: each small identifier that is passed is marked.
+use Rattle.parameters.specs.Items.{items_left}
 use Rattle.parameters_reader.proofs.Marks.{Marking}
 use Rattle.parameters_reader.proofs.identifiers.mark_each.Given as goal
 
-abbrev pub invariant-loop-at : goal.invariant-loop-at
-invariant-loop-at l = Marking l.sequence l.seen l.at
-
-abbrev pub decreases-loop-at : goal.decreases-loop-at
-decreases-loop-at l = length l.sequence - l.at
+abbrev pub invariant-loop-id : goal.invariant-loop-id
+invariant-loop-id l = Marking (items_left l.fn.parameters.sequence.now l.fn.parameters.at) (items_left l.id-iterator.sequence.now l.id-iterator.at) l.seen

@@ -1,50 +1,41 @@
 -- `walk`: parameter by parameter.
+use Prim.Native.Nat.{ℕ}
+use mathlib.Core.List.{List, []}
 use mathlib.Core.Path.{◌≡◌, refl}
-use native.Mathlib.Omega.{arith}
-use Rattle.refusals.specs.Reply.{Reply.answered}
-use Rattle.parameters.specs.Sequence.{Field, field_at}
-use Rattle.parameters.proofs.Walk.{ended, field-inside, stopped, told-field, told-lost}
-use Rattle.parameters_reader.specs.Walking.{Noted}
-use Rattle.parameters_reader.proofs.Passing.{passes, starts}
-use Rattle.parameters_reader.proofs.walk.walk.Goals.{In-Read}
+use mathlib.Core.Bool.{true, false≢true}
+use Rattle.refusals.specs.Reply.{Reply, Reply.refused, Reply.answered, refuse}
+use Rattle.refusals.specs.declared.Call.TheVariants.{Reading}
+use Rattle.parameters.specs.Reading.{runs_past}
+use Rattle.parameters.specs.Sequence.{Field}
+use Rattle.parameters_reader.specs.Walking.{Noted, passage_of}
+use Rattle.parameters_reader.proofs.Passing.{Passing, passed-all, passed-short, passes, starts}
 use Rattle.parameters_reader.proofs.walk.walk.Goals as goal
 
-pub loop-at-init : goal.loop-at-init
-loop-at-init c = starts _ _ c.requires
+pub loop-id-init : goal.loop-id-init
+loop-id-init c = rw (c.into_iter-id-iterator.ensures.into_iter_gives, c.requires.start) (starts _ _ c.requires.room)
 
--- The parameter that was read
-abbrev the_field : In-Read → Field
-the_field c = record { id = c.in-Read.id; value = c.in-Read.value }
+pub loop-id-preserved : goal.loop-id-preserved
+loop-id-preserved c = passes _ _ _ _ _ _ _ _ _ c.in-Some.field-0 c.loop-id.invariant c.in-Some.ensures.steps c.note.ensures c.or_here-ours.ensures
 
-field-read : (c : In-Read)
-    → field_at c.args.sequence.now c.loop-at.at ≡ answered (the_field c)
-field-read c =
-    let call = c.read_parameter-one in
-    told-field call.result _ _ call.ensures _ _ c.in-Read.is
+-- A field runs past the end
+pub record Cut (r : Reply (List Field)) (ids : List ℕ) : Type 0 where
+  pub answer : refuse Reading 81 ≡ passage_of r
+  pub noted : Noted r ids
 
-pub returns-in_default : goal.returns-in_default
+cut : (r : Reply (List Field)) (ids : List ℕ) → runs_past r ≡ true → Cut r ids
 unfolding Noted
-returns-in_default c = let call = c.read_parameter-one in
-    let p = c.loop-at.invariant in
-    let s = c.args.sequence.now in
-    let lost = told-lost call.result s c.loop-at.at call.ensures _ c.in_default.is in
-    let all = stopped s c.loop-at.at p.passed p.going _ c.loop-at-test.true lost in
-    rw all (record { answer = refl; noted = tt })
+cut (refused n c) ids h = record { answer = refl; noted = tt }
+cut (answered fs) ids h = absurd (false≢true h)
 
-pub overflow_add-count : goal.overflow_add-count
-overflow_add-count c = let p = c.loop-at.invariant in
-    omega (arith, p.counts, p.going.few, p.going.inside)
-
-pub loop-at-smaller : goal.loop-at-smaller
-loop-at-smaller c = let i = field-inside _ _ (the_field (goal.at.loop-at-smaller c).In-Read) (field-read (goal.at.loop-at-smaller c).In-Read) in
-    omega (arith, i.begins, i.in_order, i.ends)
-
-pub loop-at-preserved : goal.loop-at-preserved
-loop-at-preserved c = passes _ _ _ _ _ _ _ (the_field (goal.at.loop-at-preserved c).In-Read) c.loop-at.invariant c.loop-at-test.true (field-read (goal.at.loop-at-preserved c).In-Read)
-    c.note.ensures c.or_here-ours.ensures
+pub returns-then-at-end : goal.returns-then-at-end
+returns-then-at-end c =
+    let p = passed-short (rw c.in-None.ensures.steps.0 at c.loop-id.invariant) c.if-at-end.true in
+    let both = cut _ c.loop-id.ids p in
+    record { answer = both.answer; noted = both.noted }
 
 pub returns : goal.returns
 unfolding Noted
-returns c = let p = c.loop-at.invariant in
-    let all = ended _ _ p.passed p.going c.loop-at-test.false in
-    rw (all, p.counts, p.begins.lies) (record { answer = refl; noted = p.notes })
+returns c =
+    let p : Passing _ _ [] _ _ _ = rw c.in-None.ensures.steps.0 at c.loop-id.invariant in
+    let all = passed-all p c.if-at-end.false in
+    rw (all, c.carried_at-value.ensures, p.begins.lies, p.counts) (record { answer = refl; noted = p.notes })

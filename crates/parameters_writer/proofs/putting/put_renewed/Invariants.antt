@@ -1,11 +1,7 @@
 -- `put_renewed`: parameter by parameter, each at the front of what is left of the buffer.
-use Prim.Native.Nat.{◌-◌}
-use lib.ListN.{length}
+use Rattle.parameters.specs.Items.{items_left}
 use Rattle.parameters_writer.proofs.Turns.{Renewing}
 use Rattle.parameters_writer.proofs.putting.put_renewed.Given as goal
 
-abbrev pub invariant-loop-at : goal.invariant-loop-at
-invariant-loop-at l = Renewing l.old l.value l.initial.buffer l.buffer l.count l.at
-
-abbrev pub decreases-loop-at : goal.decreases-loop-at
-decreases-loop-at l = length l.old - l.at
+abbrev pub invariant-loop-parameter : goal.invariant-loop-parameter
+invariant-loop-parameter l = Renewing l.fn.renewal.old.sequence.now l.fn.renewal.value.now l.initial.buffer (items_left l.parameter-iterator.sequence.now l.parameter-iterator.at) l.buffer l.count

@@ -1,67 +1,51 @@
 -- `renewed_size`: parameter by parameter.
 use Prim.Native.Nat.{ℕ, ◌+◌}
-use mathlib.Core.Path.{◌≡◌, sym, ap, ◌∙◌}
+use mathlib.Core.List.{◌∷◌}
+use mathlib.Core.Path.{sym, ap, ◌∙◌}
 use native.Mathlib.Omega.{arith}
-use Rattle.refusals.specs.Reply.{Reply.answered}
 use Rattle.integers.specs.Integers.{shortest_width}
-use Rattle.parameters.specs.Sequence.{Field, field_at}
-use Rattle.parameters.proofs.Walk.{Inside, field-inside, never-lost, told-field, told-lost}
+use Rattle.parameters.specs.Items.{items_left}
+use Rattle.parameters.proofs.Walk.{Inside}
 use Rattle.parameters_writer.proofs.Contents.{length-short, new-size}
-use Rattle.parameters_writer.proofs.Turns.{Measured, measured-all, measured-next, measured-none}
-use Rattle.parameters_writer.proofs.size.renewed_size.Goals.{After-parameter_size-bytes, In-Read}
+use Rattle.parameters_writer.proofs.Turns.{Measured, measured-here, measured-next, measured-none}
+use Rattle.parameters_writer.proofs.size.renewed_size.Goals.{After-parameter_size-bytes, In-Some}
 use Rattle.parameters_writer.proofs.size.renewed_size.Goals as goal
 
-pub loop-at-init : goal.loop-at-init
-loop-at-init c = measured-none _ _
+pub loop-id-init : goal.loop-id-init
+loop-id-init c = rw (c.into_iter-id-iterator.ensures.into_iter_gives, c.args.renewal.start) (measured-none _ _)
 
--- The parameter that was read
-abbrev the_field : In-Read → Field
-the_field c = record { id = c.in-Read.id; value = c.in-Read.part }
+next : (c : In-Some)
+    → Measured c.args.renewal.old.sequence.now c.args.renewal.value.now (c.in-Some.field-0 ∷ items_left c.next.new.self.sequence.now c.next.new.self.at) c.loop-id.bytes c.loop-id.count
+next c = rw c.in-Some.ensures.steps at c.loop-id.invariant
 
-field-read : (c : In-Read)
-    → field_at c.args.old.now c.loop-at.at ≡ answered (the_field c)
-field-read c =
-    let call = c.read_parameter-one in
-    told-field call.result _ _ call.ensures _ _ c.in-Read.is
+inside : (c : In-Some) → Inside c.args.renewal.old.sequence.now (next c).at c.in-Some.field-0
+inside c = measured-here (next c)
 
-inside : (c : In-Read) → Inside c.args.old.now c.loop-at.at (the_field c)
-inside c = field-inside _ _ (the_field c) (field-read c)
-
-pub returns-in_default : goal.returns-in_default
-returns-in_default c = let call = c.read_parameter-one in
-    let m = c.loop-at.invariant in
-    let lost = told-lost call.result _ _ call.ensures _ c.in_default.is in
-    absurd (never-lost _ _ m.passed m.going c.requires.is_read _ c.loop-at-test.true lost)
-
-pub overflow_sub-part : goal.overflow_sub-part
-overflow_sub-part c = (inside (goal.at.overflow_sub-part c).In-Read).in_order
+pub overflow_sub-value : goal.overflow_sub-value
+overflow_sub-value c = (inside (goal.at.overflow_sub-value c).In-Some).in_order
 
 pub parameter_size-bytes-requires : goal.parameter_size-bytes-requires
-parameter_size-bytes-requires c = let short = length-short c.args.old.now c.args.value.now (the_field (goal.at.parameter_size-bytes-requires c).In-Read) c.requires.value-short c.requires.old-short (inside (goal.at.parameter_size-bytes-requires c).In-Read).ends in
+parameter_size-bytes-requires c =
+    let r = c.args.renewal in
+    let short = length-short r.old.sequence.now r.value.now c.in-Some.field-0 r.short r.old.short (inside (goal.at.parameter_size-bytes-requires c).In-Some).ends in
     omega (arith, c.renewed_length.ensures, short)
 
 -- A turn
 turn : (c : After-parameter_size-bytes)
-    → Measured c.args.old.now c.args.value.now (c.loop-at.bytes + c.parameter_size-bytes.result) (c.loop-at.count + 1) c.in-Read.part.end
+    → Measured c.args.renewal.old.sequence.now c.args.renewal.value.now (items_left c.next.new.self.sequence.now c.next.new.self.at)
+    (c.loop-id.bytes + c.parameter_size-bytes.result) (c.loop-id.count + 1)
 turn c =
-    let read = (goal.at.After-parameter_size-bytes c).In-Read in
-    let f : Field = the_field read in
+    let r = c.args.renewal in
+    let at = (goal.at.After-parameter_size-bytes c).In-Some in
+    let f = c.in-Some.field-0 in
     let size = ap (λ (n : ℕ). shortest_width f.id + (shortest_width n + n)) c.renewed_length.ensures in
-    measured-next c.args.old.now c.args.value.now _ _ _ _ f c.requires c.loop-at.invariant c.loop-at-test.true (field-read read)
-    (c.parameter_size-bytes.ensures ∙ size
-    ∙ sym (new-size c.args.old.now c.args.value.now f (inside read).in_order (inside read).ends))
+    measured-next r.old.sequence.now r.value.now f _ _ _ _ r.old.short r.short (next at)
+    (c.parameter_size-bytes.ensures ∙ size ∙ sym (new-size r.old.sequence.now r.value.now f (inside at).in_order (inside at).ends))
 
-pub loop-at-preserved : goal.loop-at-preserved
-loop-at-preserved c = turn (goal.at.loop-at-preserved c).After-parameter_size-bytes
+pub loop-id-preserved : goal.loop-id-preserved
+loop-id-preserved c = turn (goal.at.loop-id-preserved c).After-parameter_size-bytes
 
 pub overflow_add-bytes : goal.overflow_add-bytes
-overflow_add-bytes c = let next = turn (goal.at.overflow_add-bytes c).After-parameter_size-bytes in
-    omega (arith, next.fits, (inside (goal.at.overflow_add-bytes c).In-Read).ends, c.requires.old-short)
-
-pub loop-at-smaller : goal.loop-at-smaller
-loop-at-smaller c = let i = inside (goal.at.loop-at-smaller c).In-Read in
-    omega (arith, i.begins, i.in_order, i.ends)
-
-pub returns : goal.returns
-returns c = let all = measured-all _ _ _ _ _ c.requires c.loop-at.invariant c.loop-at-test.false in
-    record { bytes = all.0; count = all.1.0; few = all.1.1 }
+overflow_add-bytes c =
+    let t = turn (goal.at.overflow_add-bytes c).After-parameter_size-bytes in
+    omega (arith, t.fits, t.inside, c.args.renewal.old.short)

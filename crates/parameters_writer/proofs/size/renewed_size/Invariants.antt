@@ -1,11 +1,7 @@
 -- `renewed_size`: parameter by parameter.
-use Prim.Native.Nat.{◌-◌}
-use lib.ListN.{length}
+use Rattle.parameters.specs.Items.{items_left}
 use Rattle.parameters_writer.proofs.Turns.{Measured}
 use Rattle.parameters_writer.proofs.size.renewed_size.Given as goal
 
-abbrev pub invariant-loop-at : goal.invariant-loop-at
-invariant-loop-at l = Measured l.old l.value l.bytes l.count l.at
-
-abbrev pub decreases-loop-at : goal.decreases-loop-at
-decreases-loop-at l = length l.old - l.at
+abbrev pub invariant-loop-id : goal.invariant-loop-id
+invariant-loop-id l = Measured l.fn.renewal.old.sequence.now l.fn.renewal.value.now (items_left l.id-iterator.sequence.now l.id-iterator.at) l.bytes l.count

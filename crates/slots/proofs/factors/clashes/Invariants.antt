@@ -1,9 +1,7 @@
--- `clashes` is safe and ends. No answer rests on what it counts.
-use Prim.Native.Nat.{◌-◌, ◌≤◌}
+-- `clashes` is safe. No answer rests on what it counts.
+use Prim.Native.Nat.{◌≤◌}
+use lib.ListN.{length}
 use Rattle.slots.proofs.factors.clashes.Given as goal
 
-abbrev pub invariant-loop-k : goal.invariant-loop-k
-invariant-loop-k l = (l.k ≤ l.upto) × (l.count ≤ l.k)
-
-abbrev pub decreases-loop-k : goal.decreases-loop-k
-decreases-loop-k l = l.upto - l.k
+abbrev pub invariant-loop-version : goal.invariant-loop-version
+invariant-loop-version l = l.count ≤ length l.yielded

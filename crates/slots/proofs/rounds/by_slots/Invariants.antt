@@ -1,12 +1,8 @@
--- `by_slots`: round by round, and what is left by passes.
-use Prim.Native.Nat.{◌-◌, ◌≤◌}
+-- `by_slots`: each round leaves the answer.
+use mathlib.Core.Path.{◌≡◌}
 use Rattle.lists.specs.Wire.{entries}
-use Rattle.slots.specs.Limits.{max_rounds}
-use Rattle.slots.specs.Slots.{Judged}
+use Rattle.slots.specs.First.{first_place}
 use Rattle.slots.proofs.rounds.by_slots.Given as goal
 
-abbrev pub invariant-loop-round : goal.invariant-loop-round
-invariant-loop-round l = (l.round ≤ max_rounds) × Judged l.table (entries l.bytes) l.marks l.best
-
-abbrev pub decreases-loop-round : goal.decreases-loop-round
-decreases-loop-round l = max_rounds - l.round
+abbrev pub invariant-loop : goal.invariant-loop
+invariant-loop l = first_place l.search.table.now (entries l.search.bytes.now) ≡ first_place l.table (entries l.bytes)

@@ -1,6 +1,0 @@
--- `down_to_one`: the start keeps every rule, by computing.
-use Rattle.worked_attempts.proofs.Accepted as accepted
-use Rattle.worked_attempts.proofs.records.down_to_one.Goals as goal
-
-pub open-requires : goal.open-requires
-open-requires c = accepted.down-to-one

@@ -1,6 +1,0 @@
--- `plain`: the start keeps every rule, by computing.
-use Rattle.worked_attempts.proofs.Accepted as accepted
-use Rattle.worked_attempts.proofs.records.plain.Goals as goal
-
-pub open-requires : goal.open-requires
-open-requires c = accepted.plain
