@@ -64,7 +64,9 @@ fn no_attempt() -> Record
 }
 
 // Puts the own list of an attempt at the front of the places, and answers how many versions it has; none for a record that
-// could not be an attempt's. It refuses nothing. The places past the list keep their values.
+// could not be an attempt's. It refuses nothing. The places past the list keep their values. (Always inlined: where it is
+// called the whole record is copied first.)
+#[inline(always)]
 pub fn put_own(held: Record, versions: &mut [u32; MAX_TABLE]) -> Option<usize>
     ensures answer { result ≡ own_count held }
     ensures left { versions.new ≡ over (own_record held) versions.old }

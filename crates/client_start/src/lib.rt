@@ -13,7 +13,7 @@ mod input; // what a start is given
 mod words; // the words that the record keeps own lists as
 
 use crate::input::Input;
-use crate::words::rows_for;
+use crate::words::put_rows;
 use attempt::{Attempt, End, MAX_ID};
 use journal::empty;
 use refusals::Refusal;
@@ -87,7 +87,8 @@ fn open(input: Input) -> Attempt
     ensures { result ≡ opened (given input.entry) }
 {
     let places = padded([0u32; MAX_TABLE], input.table.versions);
-    let rows = rows_for(input.table, input.pairs, input.barred);
+    let mut rows = [0u64; MAX_TABLE];
+    put_rows(&mut rows, input.table, input.pairs, input.barred);
     let destination_places = padded([0u8; MAX_ID], input.destination);
     let source_places = padded([0u8; MAX_ID], input.source);
     Attempt {

@@ -11,7 +11,7 @@ ghost use Rattle.slots.specs.declared.rounds.Mark.TheVariants.{Absent, Standing}
 use crate::FEW;
 use crate::factors::best_factor;
 use crate::scan::scan;
-use crate::slot::Slots;
+use crate::slot::{Factor, Slots};
 use lists::{contains_in_bytes, turned};
 use versions::MAX_TABLE;
 
@@ -70,7 +70,15 @@ impl<'a> Search<'a> {
     fn one_round(&mut self)
         ensures { first_place self.new.table.now (entries self.new.bytes.now) ≡ first_place self.old.table.now (entries self.old.bytes.now) }
     {
-        let mut slots = Slots::new(best_factor(self.table, &self.marks));
+        let factor = best_factor(self.table, &self.marks);
+        self.round_by(factor);
+    }
+
+    // The same with the factor. (Apart from its choice, since the compiler filled the slots twice where both were one.)
+    fn round_by(&mut self, factor: Factor)
+        ensures { first_place self.new.table.now (entries self.new.bytes.now) ≡ first_place self.old.table.now (entries self.old.bytes.now) }
+    {
+        let mut slots = Slots::new(factor);
         self.put(&mut slots);
         self.mark_standing(&slots);
         let rest = scan(&mut slots, self.table, self.bytes);

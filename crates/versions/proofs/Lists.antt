@@ -1,14 +1,15 @@
 -- A walk over a list, entry by entry: at each place i the rest `drop i xs` answers for the whole. Each definition
 -- of specs/ over a list is read here at such a rest: what its first entry decides, what it leaves, and the end.
 use Prim.Native.Nat.{ℕ, suc, ◌+◌, ◌-◌, ◌<◌, ◌≤◌}
-use mathlib.Core.Bool.{Bool, true, false, cond, not, ◌&&◌, ◌||◌, or_assoc}
+use mathlib.Core.Bool.{Bool, true, false, cond, not, ◌&&◌, ◌||◌, or_assoc, false≢true}
 use mathlib.Core.List.{List, [], ◌∷◌, ◌++◌}
-use mathlib.Core.Path.{◌≡◌, refl, ap, ◌∙◌}
-use native.Mathlib.Nat.{le_refl}
+use mathlib.Core.Path.{◌≡◌, refl, sym, ap, ◌∙◌}
+use native.Mathlib.Nat.{le_refl, zero-add}
 use native.Mathlib.Numerals.{add-one}
 use native.Mathlib.Omega.{arith}
 use lib.ListN.{length, take, drop, get_or, length-drop, drop_of_length-le}
-use lib.Seq.{drop-cons, take_all}
+use lib.Seq.{drop-cons, drop-drop, take_all, length-take-le}
+use Rattle.std.proofs.lemmas.List.{take-append-drop}
 use borrow.Author.Tests.{eq-eqb, ne_eqb, leb-true}
 use lib.Dec.{eqb, leb}
 use Rattle.refusals.proofs.Rules.{both_true}
@@ -62,6 +63,27 @@ module _ (v : ℕ) (xs : List ℕ) (i : ℕ) where
   pub place_end : length xs ≤ i → i + place_of v (drop i xs) ≡ i
   unfolding place_of
   place_end h = rw (drop_of_length-le xs h) (omega arith)
+
+-- Entries without the version are passed over: its place in the whole is that many more than the one behind them
+place-append : (v : ℕ) (a b : List ℕ) → elem v a ≡ false → place_of v (a ++ b) ≡ length a + place_of v b
+unfolding elem place_of
+place-append v [] b h = sym (zero-add _)
+place-append v (x ∷ a) b h = go (eqb x v) h (place-append v a b)
+  where
+    go : (c : Bool) → (c || elem v a) ≡ false → (elem v a ≡ false → place_of v (a ++ b) ≡ length a + place_of v b) →
+        cond c 0 (suc (place_of v (a ++ b))) ≡ suc (length a) + place_of v b
+    go true h ih = absurd (false≢true (sym h))
+    go false h ih = rw (ih h) (omega arith)
+
+pub place-past : (v k i : ℕ) (xs : List ℕ) → k + i ≤ length xs → elem v (take i (drop k xs)) ≡ false →
+    k + place_of v (drop k xs) ≡ k + i + place_of v (drop (k + i) xs)
+place-past v k i xs h e =
+    let inside : i ≤ length (drop k xs) = simp length-drop (omega arith) in
+    let split : place_of v (drop k xs) ≡ i + place_of v (drop i (drop k xs)) =
+    ap (place_of v) (sym (take-append-drop i (drop k xs)))
+    ∙ place-append v (take i (drop k xs)) (drop i (drop k xs)) e
+    ∙ ap (λ n. n + place_of v (drop i (drop k xs))) (length-take-le i (drop k xs) inside) in
+    rw (split, drop-drop) (omega arith)
 
 -- Each entry passes a test, and none is there twice: `entries_keep_rule`, `each_reserved`
 pub record Once (test : ℕ → Bool) (each : List ℕ → Bool) : Type 0 where

@@ -6,8 +6,7 @@ ghost use Rattle.versions.specs.Pairs.{pair_keeps_rule, pairs_keep_rule};
 use crate::MAX_PAIRS;
 use crate::table::is_usable;
 
-// Whether a table of pairs keeps its rule: at most MAX_PAIRS, each pair of two usable versions that differ. (By `all` 1,024
-// pairs took a third more time.)
+// Whether a table of pairs keeps its rule: at most MAX_PAIRS, each pair of two usable versions that differ.
 #[tactic(auto, unfolding(crate::specs::Pairs::pairs_keep_rule))]
 pub fn are_pairs(pairs: &[[u32; 2]]) -> bool
     ensures { result ≡ pairs_keep_rule pairs.now }

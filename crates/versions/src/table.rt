@@ -1,8 +1,8 @@
 // Reserved numbers, tables and lists of versions.
-ghost use Rattle.std.specs.Prelude.{true, ◌≡◌};
+ghost use Rattle.std.specs.Prelude.{true, ◌≡◌, ◌≤◌, ◌+◌, length, drop};
 ghost use Rattle.std.specs.Option.{option_map};
 ghost use Rattle.versions.specs.Reserved.{reserved_keep_rule};
-ghost use Rattle.versions.specs.Table.{elem, place_in, table_if, table_keeps_rule};
+ghost use Rattle.versions.specs.Table.{elem, place_in, place_of, table_if, table_keeps_rule};
 ghost use Rattle.versions.specs.Version.{reserved, usable};
 
 use crate::{MAX_RESERVED, MAX_TABLE};
@@ -35,17 +35,36 @@ pub fn contains(list: &[u32], version: u32) -> bool
     list.contains(&version)
 }
 
-// The first place of the version in the list, counted from 0; none where it does not occur. (By `position` a server's choice
-// with 1,024 pairs took up to three times as long.)
+// How many entries the search for a place compares at a time.
+const GROUP: usize = 8;
+
+// The first place of the version in the list, counted from 0; none where it does not occur. Whole groups without the version
+// are passed over first.
 pub fn place_of(list: &[u32], version: u32) -> Option<usize>
     ensures { result ≡ place_in version list.now }
 {
-    for i in 0..list.len() {
+    for i in passed_over(list, version)..list.len() {
         if list[i] == version {
             return Some(i);
         }
     }
     None
+}
+
+// The entries of the groups at the front that do not have the version: the place in the whole list is that many more than
+// the one in the rest.
+fn passed_over(list: &[u32], version: u32) -> usize
+    ensures inside { result ≤ length list.now }
+    ensures searched { place_of version list.now ≡ result + place_of version (drop result list.now) }
+{
+    let groups = list.len() / GROUP;
+    for i in 0..groups {
+        let from = i * GROUP;
+        if contains(&list[from..from + GROUP], version) {
+            return from;
+        }
+    }
+    groups * GROUP
 }
 
 // Whether a table of versions keeps its rule: 1 to MAX_TABLE entries, none 0, none reserved, none twice.

@@ -1,12 +1,11 @@
 -- `place_of`: the place in the whole is i more than that in the rest.
-use mathlib.Core.Path.{sym, ◌∙◌}
-use native.Mathlib.Nat.{zero-add}
+use mathlib.Core.Path.{◌∙◌}
 use Rattle.versions.proofs.Lists.{place_here, place-next, place_end}
 use Rattle.versions.proofs.Searched.{stopped-there, stopped-past}
 use Rattle.versions.proofs.table.place_of.Goals as goal
 
 pub loop-i-init : goal.loop-i-init
-loop-i-init c = sym (zero-add _)
+loop-i-init c = c.passed_over-i.ensures.searched
 
 pub returns-then-list-i : goal.returns-then-list-i
 returns-then-list-i c =

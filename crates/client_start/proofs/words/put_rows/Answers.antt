@@ -1,4 +1,4 @@
--- `rows_for`: from the barred pairs' end on, the rows so far are those with the rest of them barred.
+-- `put_rows`: from the barred pairs' end on, the rows so far are those with the rest of them barred.
 use Prim.Native.Nat.{ℕ, ◌+◌, ◌-◌, ◌<◌}
 use mathlib.Core.List.{List, []}
 use mathlib.Core.Path.{◌≡◌, sym, ap, ◌∙◌}
@@ -15,13 +15,13 @@ use Rattle.versions.specs.Words.{word_bits, marked}
 use Rattle.versions.proofs.Lists.{table-counts}
 use Rattle.versions.proofs.Searched.{place-there, place-none}
 use Rattle.client_start.proofs.Rows.{barred-hit, barred-miss, barred-end, from_the_end}
-use Rattle.client_start.proofs.words.rows_for.Goals.{In-Some, In-Some-place_of}
-use Rattle.client_start.proofs.words.rows_for.Goals as goal
+use Rattle.client_start.proofs.words.put_rows.Goals.{In-Some, In-Some-place_of}
+use Rattle.client_start.proofs.words.put_rows.Goals as goal
 
 pub loop-excluded-init : goal.loop-excluded-init
 loop-excluded-init c = let args = c.args in
     let all : length args.barred.now - 0 ≡ length args.barred.now = omega arith in
-    rw all (c.paired_rows-rows.ensures ∙ barred-end args.table.versions.now args.pairs.now args.barred.now)
+    rw all (c.mark_pairs.ensures ∙ barred-end args.table.versions.now args.pairs.now args.barred.now)
 
 -- what a turn reads, and where the rest then begins
 turn : (c : In-Some) →
@@ -67,7 +67,7 @@ loop-excluded-preserved-in-Some-place_of c =
     let from = sym place.0 in
     let marked_so = c.mark-bit.ensures ∙ ap (λ (p : List ℕ). marked (take word_bits table) (to_of p) 0) (t.2 []) in
     rw (length_push l.yielded c.in-Some.excluded, marked_so, l.invariant, from)
-    (barred-hit table c.args.table.rule c.args.pairs.now list c.requires (length list - (length l.yielded + 1)) (length list - length l.yielded) t.1 t.0 (rw place.0 place.1))
+    (barred-hit table c.args.table.rule c.args.pairs.now list c.requires.1 (length list - (length l.yielded + 1)) (length list - length l.yielded) t.1 t.0 (rw place.0 place.1))
 
 pub loop-excluded-preserved : goal.loop-excluded-preserved
 loop-excluded-preserved c =
@@ -79,7 +79,7 @@ loop-excluded-preserved c =
     let v = ap (λ (p : List ℕ). place_in (from_of p) table) (t.2 []) in
     rw (length_push l.yielded c.in-Some.excluded)
     (l.invariant ∙
-    barred-miss table c.args.table.rule c.args.pairs.now list c.requires (length list - (length l.yielded + 1)) (length list - length l.yielded) t.1 t.0
+    barred-miss table c.args.table.rule c.args.pairs.now list c.requires.1 (length list - (length l.yielded + 1)) (length list - length l.yielded) t.1 t.0
     (place-none _ table (c.in_default.ensures ∙ v)))
 
 pub returns : goal.returns

@@ -1,4 +1,4 @@
--- `paired_rows`: from the pairs' end on, the rows so far are those of the rest of the pairs.
+-- `mark_pairs`: from the pairs' end on, the rows so far are those of the rest of the pairs.
 use Prim.Native.Nat.{ℕ, ◌+◌, ◌-◌, ◌<◌}
 use mathlib.Core.List.{List, []}
 use mathlib.Core.Path.{◌≡◌, sym, ap, ◌∙◌}
@@ -15,13 +15,13 @@ use Rattle.versions.specs.Words.{word_bits, marked}
 use Rattle.versions.proofs.Lists.{table-counts}
 use Rattle.versions.proofs.Searched.{place-there, place-none}
 use Rattle.client_start.proofs.Rows.{rows-hit, rows-miss, rows_end, from_the_end}
-use Rattle.client_start.proofs.words.paired_rows.Goals.{In-Some, In-Some-place_of}
-use Rattle.client_start.proofs.words.paired_rows.Goals as goal
+use Rattle.client_start.proofs.words.mark_pairs.Goals.{In-Some, In-Some-place_of}
+use Rattle.client_start.proofs.words.mark_pairs.Goals as goal
 
 pub loop-pair-init : goal.loop-pair-init
 loop-pair-init c = let args = c.args in
     let all : length args.pairs.now - 0 ≡ length args.pairs.now = omega arith in
-    rw all (c.own_rows-rows.ensures ∙ rows_end args.table.versions.now args.pairs.now)
+    rw all (c.requires ∙ rows_end args.table.versions.now args.pairs.now)
 
 -- what a turn reads, and where the rest then begins
 turn : (c : In-Some) →

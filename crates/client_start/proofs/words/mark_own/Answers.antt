@@ -1,4 +1,4 @@
--- `own_rows`: after i entries the rows are the first i words, in their places.
+-- `mark_own`: after i entries the rows are the first i words, in their places.
 use Prim.Native.Nat.{ℕ}
 use mathlib.Core.List.{List, []}
 use mathlib.Core.Path.{◌≡◌, sym, ap, ◌∙◌}
@@ -11,10 +11,10 @@ use Rattle.versions.proofs.Marked.{word-of-all}
 use Rattle.attempt.specs.OwnList.{rows_for}
 use Rattle.attempt.proofs.Padded.{padded-none, push-next, padded-all}
 use Rattle.client_start.proofs.Rows.{word_none, length-rows, row_at}
-use Rattle.client_start.proofs.words.own_rows.Goals as goal
+use Rattle.client_start.proofs.words.mark_own.Goals as goal
 
 pub loop-i-init : goal.loop-i-init
-loop-i-init c = padded-none max_table
+loop-i-init c = c.requires
 
 pub loop-i-preserved : goal.loop-i-preserved
 loop-i-preserved c = let table = c.args.table.versions.now in
